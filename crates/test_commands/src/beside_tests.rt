@@ -1,4 +1,4 @@
-use crate::helpers::{ends, printed, refused, shelf_of_tables};
+use crate::helpers::{ends_alone, printed, refused, shelf_of_tables};
 use std::test::*;
 
 /// One line unit at the depot and one base: its sites, parts and rates.
@@ -37,8 +37,8 @@ fn compares_with_poisson_pipelines(rt: HostRuntime) -> Result<(), Fail> {
     let alloc = rt.alloc();
     let line = "compare --sites sites --parts parts --rates rates --stocks stocks";
     for (tables, report) in &COMPARED {
-        let mut shelf = shelf_of_tables(alloc, *tables, &[])?;
-        ends(&rt, alloc, line, &mut shelf, &[], printed(report))?;
+        let shelf = shelf_of_tables(alloc, *tables, &[])?;
+        ends_alone(&rt, alloc, line, shelf, &[], printed(report))?;
     }
     Ok(())
 }
@@ -69,8 +69,8 @@ fn plans_edits_in_turn(rt: HostRuntime) -> Result<(), Fail> {
     let alloc = rt.alloc();
     let line = "session --sites sites --parts parts --rates rates --edits stocks";
     for (rates, edits, report) in &EDITED {
-        let mut shelf = shelf_of_tables(alloc, [SITES, PARTS, *rates, *edits], &[])?;
-        ends(&rt, alloc, line, &mut shelf, &[], printed(report))?;
+        let shelf = shelf_of_tables(alloc, [SITES, PARTS, *rates, *edits], &[])?;
+        ends_alone(&rt, alloc, line, shelf, &[], printed(report))?;
     }
     Ok(())
 }
@@ -97,8 +97,8 @@ fn refuses_edits(rt: HostRuntime) -> Result<(), Fail> {
     for (before, count, edits, fault) in &REFUSED {
         let mut all = before.repeat(alloc, *count)?;
         all.push_str(edits)?;
-        let mut shelf = shelf_of_tables(alloc, [SITES, PARTS, RATES, all.as_str()], &[])?;
-        ends(&rt, alloc, line, &mut shelf, &[], refused(3, fault))?;
+        let shelf = shelf_of_tables(alloc, [SITES, PARTS, RATES, all.as_str()], &[])?;
+        ends_alone(&rt, alloc, line, shelf, &[], refused(3, fault))?;
     }
     Ok(())
 }

@@ -1,4 +1,4 @@
-use crate::helpers::{Ended, ends, printed, refused, shelf_with};
+use crate::helpers::{Ended, ends_alone, printed, refused, shelf_with};
 use answers::NoMemory;
 use spares_io::MemShelf;
 use std::alloc::Global;
@@ -290,8 +290,8 @@ fn certified(
 /// Certificates are accepted.
 fn accepts(rt: &impl Abort, alloc: Global, rows: &[(&str, &str, &str)]) -> Result<(), Fail> {
     for (text, changes, report) in rows {
-        let mut shelf = certified(alloc, text, ALL, changes, &[])?;
-        ends(rt, alloc, CHECK, &mut shelf, &[], printed(report))?;
+        let shelf = certified(alloc, text, ALL, changes, &[])?;
+        ends_alone(rt, alloc, CHECK, shelf, &[], printed(report))?;
     }
     Ok(())
 }
@@ -299,8 +299,8 @@ fn accepts(rt: &impl Abort, alloc: Global, rows: &[(&str, &str, &str)]) -> Resul
 /// Certificates are refused.
 fn refuses(rt: &impl Abort, alloc: Global, rows: &[(&str, &str, &str)]) -> Result<(), Fail> {
     for (text, changes, line) in rows {
-        let mut shelf = certified(alloc, text, ALL, changes, &[])?;
-        ends(rt, alloc, CHECK, &mut shelf, &[], refused(4, line))?;
+        let shelf = certified(alloc, text, ALL, changes, &[])?;
+        ends_alone(rt, alloc, CHECK, shelf, &[], refused(4, line))?;
     }
     Ok(())
 }
@@ -308,8 +308,8 @@ fn refuses(rt: &impl Abort, alloc: Global, rows: &[(&str, &str, &str)]) -> Resul
 /// A certificate that ends early is refused.
 fn refuses_cut(rt: &impl Abort, alloc: Global, rows: &[(usize, &str)]) -> Result<(), Fail> {
     for (count, line) in rows {
-        let mut shelf = certified(alloc, PLAIN, *count, "", &[])?;
-        ends(rt, alloc, CHECK, &mut shelf, &[], refused(4, line))?;
+        let shelf = certified(alloc, PLAIN, *count, "", &[])?;
+        ends_alone(rt, alloc, CHECK, shelf, &[], refused(4, line))?;
     }
     Ok(())
 }
@@ -334,22 +334,15 @@ fn refuses_certificates_that_end_early(rt: HostRuntime) -> Result<(), Fail> {
 fn stops_a_check_at_each_call_that_fails(rt: HostRuntime) -> Result<(), Fail> {
     let alloc = rt.alloc();
     let unread = refused(5, "fault,read,certificate\n");
-    let mut failing = certified(alloc, PLAIN, ALL, "", &[1])?;
-    ends(&rt, alloc, CHECK, &mut failing, &[], unread)?;
-    let mut whole = certified(alloc, PLAIN, ALL, "", &[2])?;
-    ends(
-        &rt,
-        alloc,
-        "check --certificate other",
-        &mut whole,
-        &[],
-        unread,
-    )?;
+    let failing = certified(alloc, PLAIN, ALL, "", &[1])?;
+    ends_alone(&rt, alloc, CHECK, failing, &[], unread)?;
+    let whole = certified(alloc, PLAIN, ALL, "", &[2])?;
+    ends_alone(&rt, alloc, "check --certificate other", whole, &[], unread)?;
     let half = Ended {
         status: 6,
         out: "accepted,1\nbudget,0\ncost,0\nu",
         err: "fault,write\n",
     };
-    let mut full = certified(alloc, PLAIN, ALL, "", &[2])?;
-    ends(&rt, alloc, CHECK, &mut full, &[1], half)
+    let full = certified(alloc, PLAIN, ALL, "", &[2])?;
+    ends_alone(&rt, alloc, CHECK, full, &[1], half)
 }

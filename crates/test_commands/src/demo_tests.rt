@@ -1,4 +1,5 @@
-use crate::helpers::{Ended, empty_shelf, ends, printed, refused, shelf_with};
+use crate::helpers::{Ended, empty_shelf, ends, ends_alone, printed, refused, shelf_with};
+use spares_io::MemShelf;
 use std::alloc::Global;
 use std::process::Abort;
 use std::test::*;
@@ -23,8 +24,8 @@ const REFUSED: [(&str, &str); 6] = [
 /// Words are refused.
 fn refuses(rt: &impl Abort, alloc: Global, rows: &[(&str, &str)]) -> Result<(), Fail> {
     for (words, line) in rows {
-        let mut shelf = empty_shelf(alloc)?;
-        ends(rt, alloc, words, &mut shelf, &[], refused(2, line))?;
+        let shelf = empty_shelf(alloc)?;
+        ends_alone(rt, alloc, words, shelf, &[], refused(2, line))?;
     }
     Ok(())
 }
@@ -35,16 +36,21 @@ fn refuses_words_of_demonstrations(rt: HostRuntime) -> Result<(), Fail> {
 }
 
 /// It prints the same at each run, even with a shelf whose first call would fail, and half if the output fails.
-#[test]
-fn demonstrates(rt: HostRuntime) -> Result<(), Fail> {
-    let alloc = rt.alloc();
+fn shows(rt: &impl Abort, alloc: Global, shelf: &mut MemShelf) -> Result<(), Fail> {
     let half = Ended {
         status: 6,
         out: HALF,
         err: "fault,write\n",
     };
-    let mut shelf = shelf_with(alloc, &[], &[1])?;
-    ends(&rt, alloc, "demo 7 40", &mut shelf, &[], printed(REPORT))?;
-    ends(&rt, alloc, "demo 7 40", &mut shelf, &[], printed(REPORT))?;
-    ends(&rt, alloc, "demo 7 40", &mut shelf, &[1], half)
+    ends(rt, alloc, "demo 7 40", shelf, &[], printed(REPORT))?;
+    ends(rt, alloc, "demo 7 40", shelf, &[], printed(REPORT))?;
+    ends(rt, alloc, "demo 7 40", shelf, &[1], half)
+}
+
+#[test]
+fn demonstrates(rt: HostRuntime) -> Result<(), Fail> {
+    let mut shelf = shelf_with(rt.alloc(), &[], &[1])?;
+    let ended = shows(&rt, rt.alloc(), &mut shelf);
+    drop(shelf);
+    ended
 }

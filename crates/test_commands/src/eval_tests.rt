@@ -1,4 +1,4 @@
-use crate::helpers::{Ended, ends, shelf_of, shelf_of_tables, tables_of};
+use crate::helpers::{Ended, ends_alone, shelf_of, shelf_of_tables, tables_of};
 use std::alloc::Global;
 use std::process::Abort;
 use std::test::Fail;
@@ -184,13 +184,13 @@ fn prints(rt: &impl Abort, alloc: Global, rows: &[(&str, &str, u8, &str)]) -> Re
     for (tables, words, bits, figures) in rows {
         let line = format!(in alloc; "{EVAL}{words}")?;
         let report = format!(in alloc; "eval,{bits}\n{figures}")?;
-        let mut shelf = shelf_of(alloc, tables, &[])?;
+        let shelf = shelf_of(alloc, tables, &[])?;
         let wanted = Ended {
             status: 0,
             out: report.as_str(),
             err: "",
         };
-        ends(rt, alloc, line.as_str(), &mut shelf, &[], wanted)?;
+        ends_alone(rt, alloc, line.as_str(), shelf, &[], wanted)?;
     }
     Ok(())
 }
@@ -202,12 +202,12 @@ fn refuses(rt: &impl Abort, alloc: Global, rows: &[(usize, &str, &str)]) -> Resu
         if let Some(changed) = tables.get_mut(*file) {
             *changed = table;
         }
-        let mut shelf = shelf_of_tables(alloc, tables, &[])?;
-        ends(
+        let shelf = shelf_of_tables(alloc, tables, &[])?;
+        ends_alone(
             rt,
             alloc,
             EVAL,
-            &mut shelf,
+            shelf,
             &[],
             Ended {
                 status: 3,
@@ -227,10 +227,10 @@ fn stops(rt: &impl Abort, alloc: Global, rows: &[(u32, &str, &str)]) -> Result<(
             out: "",
             err: refusal,
         };
-        let mut failing = shelf_of(alloc, ONE, &[*call])?;
-        ends(rt, alloc, EVAL, &mut failing, &[], wanted)?;
-        let mut whole = shelf_of(alloc, ONE, &[])?;
-        ends(rt, alloc, lacking, &mut whole, &[], wanted)?;
+        let failing = shelf_of(alloc, ONE, &[*call])?;
+        ends_alone(rt, alloc, EVAL, failing, &[], wanted)?;
+        let whole = shelf_of(alloc, ONE, &[])?;
+        ends_alone(rt, alloc, lacking, whole, &[], wanted)?;
     }
     Ok(())
 }
@@ -255,14 +255,14 @@ fn stops_at_each_call_that_fails(rt: HostRuntime) -> Result<(), Fail> {
 #[test]
 fn keeps_half_of_a_report(rt: HostRuntime) -> Result<(), Fail> {
     let alloc = rt.alloc();
-    let mut shelf = shelf_of(alloc, ONE, &[5])?;
+    let shelf = shelf_of(alloc, ONE, &[5])?;
     let half =
         "eval,48\ncost,0\nitem,L,D,0,2.000000,2.000000,2.000000,2.000000,2.000000,2.000000,2.000000,2.000000\nitem,L,B,0,3.000000,3.000000,";
-    ends(
+    ends_alone(
         &rt,
         alloc,
         EVAL,
-        &mut shelf,
+        shelf,
         &[1],
         Ended {
             status: 6,
@@ -276,12 +276,12 @@ fn keeps_half_of_a_report(rt: HostRuntime) -> Result<(), Fail> {
 fn refuses_other_bits(rt: HostRuntime) -> Result<(), Fail> {
     let alloc = rt.alloc();
     let line = format!(in alloc; "{EVAL} --bits 40")?;
-    let mut shelf = shelf_of(alloc, ONE, &[1])?;
-    ends(
+    let shelf = shelf_of(alloc, ONE, &[1])?;
+    ends_alone(
         &rt,
         alloc,
         line.as_str(),
-        &mut shelf,
+        shelf,
         &[],
         Ended {
             status: 2,

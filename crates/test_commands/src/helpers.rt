@@ -102,6 +102,34 @@ pub(crate) fn refused(status: u8, line: &str) -> Ended {
     }
 }
 
+/// The exit status of a run.
+fn status_of(
+    alloc: Global,
+    words: &[Text],
+    shelf: &mut MemShelf,
+    out: &mut MemSink,
+    err: &mut MemSink,
+) -> u8 {
+    let answer = run(alloc, words, shelf, out, err);
+    let code = status(&answer);
+    drop(answer);
+    code
+}
+
+/// Compares the status and the outputs of a line's run.
+pub(crate) fn compare(
+    rt: &impl Abort,
+    line: &str,
+    code: u8,
+    out: &MemSink,
+    err: &MemSink,
+    wanted: Ended,
+) {
+    assert_eq!(rt; err.bytes(), wanted.err.as_bytes(), "{line}");
+    assert_eq!(rt; out.bytes(), wanted.out.as_bytes(), "{line}");
+    assert_eq!(rt; code, wanted.status, "{line}");
+}
+
 /// Runs words separated by spaces, with puts of the output that fail as listed, and compares its end.
 pub(crate) fn ends(
     rt: &impl Abort,
@@ -114,9 +142,22 @@ pub(crate) fn ends(
     let words = words_of(alloc, line)?;
     let mut out = sink(alloc, 2000, fails)?;
     let mut err = sink(alloc, 200, &[])?;
-    let answer = run(alloc, words.as_slice(), shelf, &mut out, &mut err);
-    assert_eq!(rt; err.bytes(), wanted.err.as_bytes(), "{line}");
-    assert_eq!(rt; out.bytes(), wanted.out.as_bytes(), "{line}");
-    assert_eq!(rt; status(&answer), wanted.status, "{line}");
+    let code = status_of(alloc, words.as_slice(), shelf, &mut out, &mut err);
+    compare(rt, line, code, &out, &err, wanted);
     Ok(())
+}
+
+/// The same on a shelf that serves this run alone.
+pub(crate) fn ends_alone(
+    rt: &impl Abort,
+    alloc: Global,
+    line: &str,
+    shelf: MemShelf,
+    fails: &[u32],
+    wanted: Ended,
+) -> Result<(), Fail> {
+    let mut shelf = shelf;
+    let ended = ends(rt, alloc, line, &mut shelf, fails, wanted);
+    drop(shelf);
+    ended
 }

@@ -235,31 +235,62 @@ fn holds(rt: &impl Abort, shelf: &MemShelf, name: &str, text: &str) {
     );
 }
 
+/// A shelf's tables are planned, and then its certificate is accepted.
+fn plans_and_checks(
+    rt: &impl Abort,
+    alloc: Global,
+    line: &str,
+    shelf: &mut MemShelf,
+    report: &str,
+    checked: &str,
+) -> Result<(), Fail> {
+    ends(rt, alloc, line, shelf, &[], printed(report))?;
+    ends(rt, alloc, CHECK, shelf, &[], printed(checked))
+}
+
 /// Tables are planned, and the certificate is accepted.
 fn plans(rt: &impl Abort, alloc: Global, rows: &[(&str, &str, &str, &str)]) -> Result<(), Fail> {
     for (tables, words, report, checked) in rows {
         let line = format!(in alloc; "{PLAN} {words}")?;
         let mut shelf = shelf_of(alloc, tables, &[])?;
-        ends(rt, alloc, line.as_str(), &mut shelf, &[], printed(report))?;
-        ends(rt, alloc, CHECK, &mut shelf, &[], printed(checked))?;
+        let ended = plans_and_checks(rt, alloc, line.as_str(), &mut shelf, report, checked);
+        drop(shelf);
+        ended?;
     }
     Ok(())
+}
+
+/// Runs words on a shelf, and compares its end and then its certificate, which is empty if there is none.
+fn leaves(
+    rt: &impl Abort,
+    alloc: Global,
+    line: &str,
+    shelf: MemShelf,
+    fails: &[u32],
+    wanted: Ended,
+    certificate: &str,
+) -> Result<(), Fail> {
+    let mut shelf = shelf;
+    let ended = ends(rt, alloc, line, &mut shelf, fails, wanted);
+    holds(rt, &shelf, "certificate", certificate);
+    drop(shelf);
+    ended
 }
 
 /// A plan is refused, and no certificate is written.
 fn refuses(rt: &impl Abort, alloc: Global, rows: &[(&str, &str, &str, u8)]) -> Result<(), Fail> {
     for (tables, words, refusal, code) in rows {
         let line = format!(in alloc; "{PLAN} {words}")?;
-        let mut shelf = shelf_of(alloc, tables, &[])?;
-        ends(
+        let shelf = shelf_of(alloc, tables, &[])?;
+        leaves(
             rt,
             alloc,
             line.as_str(),
-            &mut shelf,
+            shelf,
             &[],
             refused(*code, refusal),
+            "",
         )?;
-        holds(rt, &shelf, "certificate", "");
     }
     Ok(())
 }
@@ -272,14 +303,13 @@ fn stops(
 ) -> Result<(), Fail> {
     let line = format!(in alloc; "{PLAN} --budget 250")?;
     for (call, put, held, out, err, code) in rows {
-        let mut shelf = shelf_of(alloc, ONE, &[*call])?;
         let wanted = Ended {
             status: *code,
             out: *out,
             err: *err,
         };
-        ends(rt, alloc, line.as_str(), &mut shelf, &[*put], wanted)?;
-        holds(rt, &shelf, "certificate", held);
+        let shelf = shelf_of(alloc, ONE, &[*call])?;
+        leaves(rt, alloc, line.as_str(), shelf, &[*put], wanted, held)?;
     }
     Ok(())
 }
@@ -300,19 +330,18 @@ fn stops_a_plan_at_each_call_that_fails(rt: HostRuntime) -> Result<(), Fail> {
 }
 
 /// A certificate replaces the table of its name.
+fn replaces(rt: &impl Abort, alloc: Global, shelf: &mut MemShelf) -> Result<(), Fail> {
+    let words = "plan --sites sites --parts parts --rates rates --budget 250 --certificate rates";
+    ends(rt, alloc, words, shelf, &[], printed(WHOLE_REPORT))?;
+    holds(rt, shelf, "rates", CERTIFICATE);
+    let fault = refused(3, "fault,field-count,rates,1,2\n");
+    ends(rt, alloc, words, shelf, &[], fault)
+}
+
 #[test]
 fn replaces_an_input(rt: HostRuntime) -> Result<(), Fail> {
-    let alloc = rt.alloc();
-    let words = "plan --sites sites --parts parts --rates rates --budget 250 --certificate rates";
-    let mut shelf = shelf_of(alloc, ONE, &[])?;
-    ends(&rt, alloc, words, &mut shelf, &[], printed(WHOLE_REPORT))?;
-    holds(&rt, &shelf, "rates", CERTIFICATE);
-    ends(
-        &rt,
-        alloc,
-        words,
-        &mut shelf,
-        &[],
-        refused(3, "fault,field-count,rates,1,2\n"),
-    )
+    let mut shelf = shelf_of(rt.alloc(), ONE, &[])?;
+    let ended = replaces(&rt, rt.alloc(), &mut shelf);
+    drop(shelf);
+    ended
 }

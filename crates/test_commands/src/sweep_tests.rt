@@ -1,4 +1,4 @@
-use crate::helpers::{Ended, ends, printed, refused, shelf_of};
+use crate::helpers::{Ended, ends_alone, printed, refused, shelf_of};
 use std::test::*;
 
 /// One line unit at the depot and one base.
@@ -80,8 +80,8 @@ const REPORTED: [(&str, &str, &str); 10] = [
 fn tells_points_and_targets(rt: HostRuntime) -> Result<(), Fail> {
     let alloc = rt.alloc();
     for (tables, line, report) in &REPORTED {
-        let mut shelf = shelf_of(alloc, tables, &[])?;
-        ends(&rt, alloc, line, &mut shelf, &[], printed(report))?;
+        let shelf = shelf_of(alloc, tables, &[])?;
+        ends_alone(&rt, alloc, line, shelf, &[], printed(report))?;
     }
     Ok(())
 }
@@ -114,8 +114,8 @@ const REFUSED: [(&str, u8, &str); 4] = [
 fn refuses_sweeps_and_targets(rt: HostRuntime) -> Result<(), Fail> {
     let alloc = rt.alloc();
     for (line, status, fault) in &REFUSED {
-        let mut shelf = shelf_of(alloc, LARGE, &[])?;
-        ends(&rt, alloc, line, &mut shelf, &[], refused(*status, fault))?;
+        let shelf = shelf_of(alloc, LARGE, &[])?;
+        ends_alone(&rt, alloc, line, shelf, &[], refused(*status, fault))?;
     }
     Ok(())
 }
@@ -130,6 +130,6 @@ fn keeps_half_of_a_target(rt: HostRuntime) -> Result<(), Fail> {
         err: "fault,write\n",
     };
     let line = "target --sites sites --parts parts --rates rates --backorders 1";
-    let mut shelf = shelf_of(alloc, ONE, &[])?;
-    ends(&rt, alloc, line, &mut shelf, &[1], half)
+    let shelf = shelf_of(alloc, ONE, &[])?;
+    ends_alone(&rt, alloc, line, shelf, &[1], half)
 }

@@ -1,4 +1,5 @@
-use crate::helpers::{Ended, empty_shelf, ends, sink, words_of};
+use crate::helpers::{Ended, compare, empty_shelf, ends_alone, refused, sink, words_of};
+use spares_io::{MemShelf, MemSink, Text};
 use spares_top::{Refusal, run, status};
 use std::alloc::Global;
 use std::process::Abort;
@@ -122,13 +123,13 @@ const REFUSED: [(&str, &str, u8); 19] = [
 /// Each line is carried out, and prints its report.
 fn prints(rt: &impl Abort, alloc: Global, rows: &[(&str, &str)]) -> Result<(), Fail> {
     for (line, report) in rows {
-        let mut shelf = empty_shelf(alloc)?;
+        let shelf = empty_shelf(alloc)?;
         let wanted = Ended {
             status: 0,
             out: report,
             err: "",
         };
-        ends(rt, alloc, line, &mut shelf, &[], wanted)?;
+        ends_alone(rt, alloc, line, shelf, &[], wanted)?;
     }
     Ok(())
 }
@@ -136,13 +137,13 @@ fn prints(rt: &impl Abort, alloc: Global, rows: &[(&str, &str)]) -> Result<(), F
 /// Each line is refused, with this line and this status.
 fn refuses(rt: &impl Abort, alloc: Global, rows: &[(&str, &str, u8)]) -> Result<(), Fail> {
     for (line, refusal, code) in rows {
-        let mut shelf = empty_shelf(alloc)?;
+        let shelf = empty_shelf(alloc)?;
         let wanted = Ended {
             status: *code,
             out: "",
             err: refusal,
         };
-        ends(rt, alloc, line, &mut shelf, &[], wanted)?;
+        ends_alone(rt, alloc, line, shelf, &[], wanted)?;
     }
     Ok(())
 }
@@ -157,27 +158,56 @@ fn refuses_the_worked_rows(rt: HostRuntime) -> Result<(), Fail> {
     refuses(&rt, rt.alloc(), &REFUSED)
 }
 
-/// The contents of the output after a report of 56 bytes that it doesn't take whole, and of the standard error.
-#[test]
-fn keeps_a_prefix_of_the_report(rt: HostRuntime) -> Result<(), Fail> {
-    let alloc = rt.alloc();
-    let words = words_of(alloc, "single 1 1")?;
-    let cases = [
-        (100, [1u32].as_slice(), "backorders,0.367879,0.367880"),
-        (20, [].as_slice(), "backorders,0.367879,"),
-        (0, [].as_slice(), ""),
-    ];
-    for (room, fails, held) in cases {
-        let mut shelf = empty_shelf(alloc)?;
-        let mut out = sink(alloc, room, fails)?;
+/// The room of an output and its puts that fail, and its contents after a report of 56 bytes that it doesn't take whole.
+const PREFIXES: [(usize, &[u32], &str); 3] = [
+    (100, &[1], "backorders,0.367879,0.367880"),
+    (20, &[], "backorders,0.367879,"),
+    (0, &[], ""),
+];
+
+/// Whether the report isn't written, and the exit status.
+fn write_fault_of(
+    alloc: Global,
+    words: &[Text],
+    shelf: MemShelf,
+    out: &mut MemSink,
+    err: &mut MemSink,
+) -> (bool, u8) {
+    let mut shelf = shelf;
+    let answer = run(alloc, words, &mut shelf, out, err);
+    let found = (matches!(&answer, Err(Refusal::WriteFault)), status(&answer));
+    drop(answer);
+    drop(shelf);
+    found
+}
+
+/// The output keeps these contents, and the line says so.
+fn keeps(
+    rt: &impl Abort,
+    alloc: Global,
+    words: &[Text],
+    rows: &[(usize, &[u32], &str)],
+) -> Result<(), Fail> {
+    for (room, fails, held) in rows {
+        let shelf = empty_shelf(alloc)?;
+        let mut out = sink(alloc, *room, fails)?;
         let mut err = sink(alloc, 100, &[])?;
-        let answer = run(alloc, words.as_slice(), &mut shelf, &mut out, &mut err);
-        assert!(rt; matches!(answer, Err(Refusal::WriteFault)));
-        assert_eq!(rt; status(&answer), 6);
-        assert_eq!(rt; out.bytes(), held.as_bytes());
-        assert_eq!(rt; err.bytes(), b"fault,write\n".as_slice());
+        let (is_write_fault, code) = write_fault_of(alloc, words, shelf, &mut out, &mut err);
+        assert!(rt; is_write_fault);
+        let wanted = Ended {
+            status: 6,
+            out: held,
+            err: "fault,write\n",
+        };
+        compare(rt, "single 1 1", code, &out, &err, wanted);
     }
     Ok(())
+}
+
+#[test]
+fn keeps_a_prefix_of_the_report(rt: HostRuntime) -> Result<(), Fail> {
+    let words = words_of(rt.alloc(), "single 1 1")?;
+    keeps(&rt, rt.alloc(), words.as_slice(), PREFIXES.as_slice())
 }
 
 /// A refusal stays the same if its line can't be put.
@@ -185,12 +215,11 @@ fn keeps_a_prefix_of_the_report(rt: HostRuntime) -> Result<(), Fail> {
 fn refuses_without_a_line(rt: HostRuntime) -> Result<(), Fail> {
     let alloc = rt.alloc();
     let words = words_of(alloc, "single 1 64")?;
-    let mut shelf = empty_shelf(alloc)?;
+    let shelf = empty_shelf(alloc)?;
     let mut out = sink(alloc, 100, &[])?;
     let mut err = sink(alloc, 8, &[])?;
-    let answer = run(alloc, words.as_slice(), &mut shelf, &mut out, &mut err);
-    assert_eq!(rt; status(&answer), 2);
-    assert_eq!(rt; out.bytes(), b"".as_slice());
-    assert_eq!(rt; err.bytes(), b"fault,ra".as_slice());
+    let (is_write_fault, code) = write_fault_of(alloc, words.as_slice(), shelf, &mut out, &mut err);
+    assert!(rt; !is_write_fault);
+    compare(&rt, "single 1 64", code, &out, &err, refused(2, "fault,ra"));
     Ok(())
 }

@@ -173,59 +173,70 @@ fn case_with_a_shop_unit(alloc: Global, weight: u8) -> Option<Case> {
     )
 }
 
-fn lines_of(alloc: Global, case: Option<Case>) -> Option<Vec<u8>> {
-    let case = case?;
-    match write_case(alloc, &case) {
-        Ok(lines) => Some(lines),
-        Err(NoMemory) => None,
+/// Whether a case is there and has these lines.
+fn has_lines(alloc: Global, case: Option<Case>, wanted: &[u8]) -> bool {
+    let Some(case) = case else {
+        return false;
+    };
+    let lines = write_case(alloc, &case);
+    drop(case);
+    match lines {
+        Ok(lines) => lines.as_slice() == wanted,
+        Err(NoMemory) => false,
     }
 }
 
 #[test]
 fn writes_the_lines_of_cases(rt: HostRuntime) {
-    let lines = lines_of(rt.alloc(), small_case(rt.alloc())).expect(&rt, "lines");
-    assert_eq!(&rt;
-        lines.as_slice(),
-        b"sites,2\n\
-          D,depot,,\n\
-          B,base,12,10.00\n\
-          parts,1\n\
-          L,,100,1,2,3\n\
-          rates,2\n\
-          L,D,,,,20.00\n\
-          L,B,36.5000,0.0000,,0.00\n"
-            .as_slice()
+    assert!(&rt;
+        has_lines(
+            rt.alloc(),
+            small_case(rt.alloc()),
+            b"sites,2\n\
+              D,depot,,\n\
+              B,base,12,10.00\n\
+              parts,1\n\
+              L,,100,1,2,3\n\
+              rates,2\n\
+              L,D,,,,20.00\n\
+              L,B,36.5000,0.0000,,0.00\n"
+                .as_slice()
+        )
     );
-    let lines = lines_of(rt.alloc(), case_with_a_shop_unit(rt.alloc(), 1)).expect(&rt, "lines");
-    assert_eq!(&rt;
-        lines.as_slice(),
-        b"sites,2\n\
-          D,depot,,\n\
-          B,base,10,5.00\n\
-          parts,2\n\
-          L,,1000,2,1,1\n\
-          S,L,200,,1,1\n\
-          rates,4\n\
-          L,D,,,,10.00\n\
-          L,B,36.5000,0.5000,,5.00\n\
-          S,D,,,0.4000,20.00\n\
-          S,B,,0.2500,0.4000,5.00\n"
-            .as_slice()
+    assert!(&rt;
+        has_lines(
+            rt.alloc(),
+            case_with_a_shop_unit(rt.alloc(), 1),
+            b"sites,2\n\
+              D,depot,,\n\
+              B,base,10,5.00\n\
+              parts,2\n\
+              L,,1000,2,1,1\n\
+              S,L,200,,1,1\n\
+              rates,4\n\
+              L,D,,,,10.00\n\
+              L,B,36.5000,0.5000,,5.00\n\
+              S,D,,,0.4000,20.00\n\
+              S,B,,0.2500,0.4000,5.00\n"
+                .as_slice()
+        )
     );
-    let lines = lines_of(rt.alloc(), case_with_a_shop_unit(rt.alloc(), 3)).expect(&rt, "lines");
-    assert_eq!(&rt;
-        lines.as_slice(),
-        b"sites,2\n\
-          D,depot,,\n\
-          B,base,10,5.00\n\
-          parts,2,weights\n\
-          L,,1000,2,1,1,3\n\
-          S,L,200,,1,1,\n\
-          rates,4\n\
-          L,D,,,,10.00\n\
-          L,B,36.5000,0.5000,,5.00\n\
-          S,D,,,0.4000,20.00\n\
-          S,B,,0.2500,0.4000,5.00\n"
-            .as_slice()
+    assert!(&rt;
+        has_lines(
+            rt.alloc(),
+            case_with_a_shop_unit(rt.alloc(), 3),
+            b"sites,2\n\
+              D,depot,,\n\
+              B,base,10,5.00\n\
+              parts,2,weights\n\
+              L,,1000,2,1,1,3\n\
+              S,L,200,,1,1,\n\
+              rates,4\n\
+              L,D,,,,10.00\n\
+              L,B,36.5000,0.5000,,5.00\n\
+              S,D,,,0.4000,20.00\n\
+              S,B,,0.2500,0.4000,5.00\n"
+                .as_slice()
+        )
     );
 }

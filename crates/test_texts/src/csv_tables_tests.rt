@@ -120,27 +120,43 @@ struct Change {
     wanted: Refusal,
 }
 
-/// The files of case A, one of them changed.
-fn file_with(alloc: Global, file: File, text: &str, change: &Change) -> Result<Vec<u8>, NoMemory> {
-    if file == change.file {
-        changed(alloc, text, change.old, change.new)
+/// A file of case A.
+fn text_of(file: File) -> &'static str {
+    match file {
+        File::Sites => SITES,
+        File::Parts => PARTS,
+        File::Rates => RATES,
+        File::Stocks => STOCKS,
+    }
+}
+
+/// A file of case A, or these bytes if it is the one that is changed.
+fn bytes_of<'a>(file: File, changed: File, bytes: &'a [u8]) -> &'a [u8] {
+    if file == changed {
+        bytes
     } else {
-        changed(alloc, text, "", "")
+        text_of(file).as_bytes()
+    }
+}
+
+/// The refusal of the files of case A, one of which has these bytes.
+fn refusal_with(alloc: Global, changed: File, bytes: &[u8]) -> Option<Refusal> {
+    let sites = bytes_of(File::Sites, changed, bytes);
+    let parts = bytes_of(File::Parts, changed, bytes);
+    let rates = bytes_of(File::Rates, changed, bytes);
+    match case_in(alloc, sites, parts, rates) {
+        Err(refusal) => Some(refusal),
+        Ok(case) => {
+            let stocks = stocks_in(alloc, &case, bytes_of(File::Stocks, changed, bytes));
+            drop(case);
+            stocks.err()
+        }
     }
 }
 
 fn refusal_of(alloc: Global, change: &Change) -> Result<Option<Refusal>, NoMemory> {
-    let sites = file_with(alloc, File::Sites, SITES, change)?;
-    let parts = file_with(alloc, File::Parts, PARTS, change)?;
-    let rates = file_with(alloc, File::Rates, RATES, change)?;
-    let stocks = file_with(alloc, File::Stocks, STOCKS, change)?;
-    match case_in(alloc, sites.as_slice(), parts.as_slice(), rates.as_slice()) {
-        Err(refusal) => Ok(Some(refusal)),
-        Ok(case) => match stocks_in(alloc, &case, stocks.as_slice()) {
-            Err(refusal) => Ok(Some(refusal)),
-            Ok(_) => Ok(None),
-        },
-    }
+    let bytes = changed(alloc, text_of(change.file), change.old, change.new)?;
+    Ok(refusal_with(alloc, change.file, bytes.as_slice()))
 }
 
 /// A change refused with a table's fault.
@@ -545,24 +561,29 @@ fn is_case_a(case: &Case) -> bool {
         && numbers_at(case, 0, 1) == Some((365_000, 0, 0, 0))
 }
 
+/// Whether these files are case A.
+fn give_case_a(alloc: Global, sites: &[u8], parts: &[u8], rates: &[u8]) -> bool {
+    let Ok(case) = case_in(alloc, sites, parts, rates) else {
+        return false;
+    };
+    let is_given = is_case_a(&case);
+    drop(case);
+    is_given
+}
+
 // A byte order mark, CRLF, the bases before the depot, quotes, blanks and empty lines change nothing.
 #[test]
 fn reads_case_a(rt: HostRuntime) -> Result<(), Fail> {
     let alloc = rt.alloc();
-    let Ok(case) = case_in(alloc, SITES.as_bytes(), PARTS.as_bytes(), RATES.as_bytes()) else {
-        panic!(rt; "case A is refused");
-    };
-    assert!(rt; is_case_a(&case));
-    let same = case_in(
-        alloc,
-        b"\xEF\xBB\xBFsite, kind ,systems,\tship_days\r\n\r\n B ,\"base\",12,10.00\r\n\"D\",depot,,\r\n",
-        b"part,parent,cost,per_system,max_depot,max_base,weight\n\n\"L\",  ,100,1.,2,3,1",
-        b"\"part\",site,demand,repair_here,share,repair_days\r\nL,B, 36.5 ,.0,\t,0\rL,D,,,,20",
+    assert!(rt; give_case_a(alloc, SITES.as_bytes(), PARTS.as_bytes(), RATES.as_bytes()));
+    assert!(rt;
+        give_case_a(
+            alloc,
+            b"\xEF\xBB\xBFsite, kind ,systems,\tship_days\r\n\r\n B ,\"base\",12,10.00\r\n\"D\",depot,,\r\n",
+            b"part,parent,cost,per_system,max_depot,max_base,weight\n\n\"L\",  ,100,1.,2,3,1",
+            b"\"part\",site,demand,repair_here,share,repair_days\r\nL,B, 36.5 ,.0,\t,0\rL,D,,,,20",
+        )
     );
-    let Ok(same) = same else {
-        panic!(rt; "case A in other bytes is refused");
-    };
-    assert!(rt; is_case_a(&same));
     Ok(())
 }
 
@@ -608,56 +629,88 @@ fn is_refused(answer: Result<Frame, Refusal>, wanted: Refusal) -> bool {
     }
 }
 
+fn is_case_b(case: &Case) -> bool {
+    part_at(case, 0) == Some((1000, 2, 1, 1, 1))
+        && part_at(case, 1) == Some((200, 0, 0, 1, 1))
+        && numbers_at(case, 1, 0) == Some((0, 0, 4000, 2000))
+        && numbers_at(case, 1, 1) == Some((0, 2500, 4000, 500))
+}
+
+/// The cost of these stocks of a case, or their refusal.
+fn cost_of(alloc: Global, case: &Case, stocks: &[u8]) -> Result<u64, Refusal> {
+    let stocks = stocks_in(alloc, case, stocks)?;
+    Ok(stocks.cost(case))
+}
+
 #[test]
 fn reads_case_b(rt: HostRuntime) -> Result<(), Fail> {
     let alloc = rt.alloc();
-    let Ok(case) = case_in(
+    let case = case_in(
         alloc,
         b"site,kind,systems,ship_days\nD,depot,,\nB,base,10,5\n",
         b"part,parent,cost,per_system,max_depot,max_base\nL,,1000,2,1,1\nS,L,200,,1,1\n",
         b"part,site,demand,repair_here,share,repair_days\nL,D,,,,10\nL,B,36.5,0.5,,5\nS,D,,,0.4,20\nS,B,,0.25,0.4,5\n",
-    ) else {
-        panic!(rt; "case B is refused");
-    };
-    assert!(rt; part_at(&case, 0) == Some((1000, 2, 1, 1, 1)));
-    assert!(rt; part_at(&case, 1) == Some((200, 0, 0, 1, 1)));
-    assert!(rt; numbers_at(&case, 1, 0) == Some((0, 0, 4000, 2000)));
-    assert!(rt; numbers_at(&case, 1, 1) == Some((0, 2500, 4000, 500)));
-    let stocks = stocks_in(
+    );
+    let case = case.ok().expect(&rt, "case B");
+    let is_read = is_case_b(&case);
+    let cost = cost_of(
         alloc,
         &case,
         b"part,site,stock\nS,D,1\nL,D,0\nL,B,1\nS,B,0\n",
     );
-    let Ok(stocks) = stocks else {
-        panic!(rt; "the stocks are refused");
-    };
-    assert_eq!(rt; stocks.cost(&case), 1200);
+    drop(case);
+    assert!(rt; is_read);
+    assert!(rt; cost == Ok(1200));
     Ok(())
+}
+
+/// A table of a depot and 15 bases.
+fn many_sites(alloc: Global) -> Result<String, Fail> {
+    let mut sites = String::from_str(alloc, "site,kind,systems,ship_days\n0,depot,,\n")?;
+    for site in 1..16u32 {
+        sites.push_str(format!(in alloc; "{site},base,10000,9999.99\n")?.as_str())?;
+    }
+    Ok(sites)
+}
+
+/// A table of 2,000 line units.
+fn many_parts(alloc: Global) -> Result<String, Fail> {
+    let mut parts = String::from_str(alloc, "part,parent,cost,per_system,max_depot,max_base\n")?;
+    for part in 0..2000u32 {
+        parts.push_str(format!(in alloc; "part number {part},,100000000,100,63,63\n")?.as_str())?;
+    }
+    Ok(parts)
+}
+
+/// Adds the rates of a line unit at each of these bases.
+fn add_rates(alloc: Global, rates: &mut String, part: u32) -> Result<(), Fail> {
+    rates.push_str(format!(in alloc; "part number {part},0,,,,9999.99\n")?.as_str())?;
+    for site in 1..16u32 {
+        rates.push_str(format!(in alloc;
+            "part number {part},{site},100000.0000,0.9999,,9999.99\n"
+        )?.as_str())?;
+    }
+    Ok(())
+}
+
+/// The rates of all these line units at all these sites.
+fn many_rates(alloc: Global) -> Result<String, Fail> {
+    let mut rates = String::from_str(alloc, "part,site,demand,repair_here,share,repair_days\n")?;
+    for part in 0..2000u32 {
+        add_rates(alloc, &mut rates, part)?;
+    }
+    Ok(rates)
 }
 
 // 2,000 parts and 32,000 rates.
 #[test]
 fn reads_large_files(rt: HostRuntime) -> Result<(), Fail> {
     let alloc = rt.alloc();
-    let mut sites = String::from_str(alloc, "site,kind,systems,ship_days\n0,depot,,\n")?;
-    for site in 1..16u32 {
-        sites.push_str(format!(in alloc; "{site},base,10000,9999.99\n")?.as_str())?;
-    }
-    let mut parts = String::from_str(alloc, "part,parent,cost,per_system,max_depot,max_base\n")?;
-    let mut rates = String::from_str(alloc, "part,site,demand,repair_here,share,repair_days\n")?;
-    for part in 0..2000u32 {
-        parts.push_str(format!(in alloc; "part number {part},,100000000,100,63,63\n")?.as_str())?;
-        rates.push_str(format!(in alloc; "part number {part},0,,,,9999.99\n")?.as_str())?;
-        for site in 1..16u32 {
-            rates.push_str(format!(in alloc;
-                "part number {part},{site},100000.0000,0.9999,,9999.99\n"
-            )?.as_str())?;
-        }
-    }
+    let (sites, parts, rates) = (many_sites(alloc)?, many_parts(alloc)?, many_rates(alloc)?);
     let case = case_in(alloc, sites.as_bytes(), parts.as_bytes(), rates.as_bytes());
-    let Ok(case) = case else {
-        panic!(rt; "the large case is refused");
-    };
-    assert!(rt; numbers_at(&case, 1999, 15) == Some((1_000_000_000, 9999, 0, 999_999)));
+    let case = case.ok().expect(&rt, "the large case");
+    let last = numbers_at(&case, 1999, 15);
+    drop(case);
+    assert!(rt; last == Some((1_000_000_000, 9999, 0, 999_999)));
     Ok(())
 }

@@ -33,16 +33,14 @@ fn read_again(alloc: Global, bytes: &[u8]) -> Outcome {
         return Outcome::Else;
     }
     match read(alloc, bytes) {
-        Ok(certificate) => match text(alloc, &certificate) {
-            Ok(again) => {
-                if again.as_slice() == bytes {
-                    Outcome::Read
-                } else {
-                    Outcome::Else
-                }
+        Ok(certificate) => {
+            let again = text(alloc, &certificate);
+            drop(certificate);
+            match again {
+                Ok(again) if again.as_slice() == bytes => Outcome::Read,
+                _ => Outcome::Else,
             }
-            Err(_memory) => Outcome::Else,
-        },
+        }
         Err(Stop::NoMemory) => Outcome::Else,
         Err(Stop::Fault(CertFault::BadLine(line))) => Outcome::BadLine(line),
         Err(Stop::Fault(CertFault::BadCase(fault))) => Outcome::BadCase(fault),

@@ -1,23 +1,43 @@
 //! Texts and lists, shelves and sinks: their contents, and their failures.
 
-use answers::List;
+use answers::{List, NoMemory};
 use spares_io::{FileShelf, MemShelf, MemSink, Shelf, ShelfError, Sink, SinkFailed, StdSink, Text};
+use std::alloc::Global;
 use std::fs;
 use std::io::{self, Error, ErrorKind, Write};
 use std::process::Abort;
 use std::test::Fail;
 
+/// Whether two texts are equal, and whether they differ.
+fn compare_texts(alloc: Global, text: &str, other: &str) -> Result<(bool, bool), NoMemory> {
+    let (text, other) = (Text::from_str(alloc, text)?, Text::from_str(alloc, other)?);
+    Ok((text == other, text != other))
+}
+
+/// Whether two lists are equal, and whether they differ.
+fn compare_lists(alloc: Global, list: &[u8], other: &[u8]) -> Result<(bool, bool), NoMemory> {
+    let (list, other) = (
+        List::of(list.to_vec(alloc)?),
+        List::of(other.to_vec(alloc)?),
+    );
+    Ok((list == other, list != other))
+}
+
 #[test]
-fn texts_and_lists_keep_what_they_are_made_of(rt: HostRuntime) -> Result<(), Fail> {
+fn texts_keep_what_they_are_made_of(rt: HostRuntime) -> Result<(), Fail> {
     let alloc = rt.alloc();
-    let text = Text::from_str(alloc, "Straße")?;
-    assert_eq!(rt; text.as_str(), "Straße");
-    assert!(rt; text == Text::from_str(alloc, "Straße")?);
-    assert!(rt; text != Text::from_str(alloc, "Strasse")?);
-    let list = List::of([3, 1, 2].to_vec(alloc)?);
-    assert_eq!(rt; list.as_slice(), [3, 1, 2].as_slice());
-    assert!(rt; list == List::of([3, 1, 2].to_vec(alloc)?));
-    assert!(rt; list != List::of([3, 1].to_vec(alloc)?));
+    assert_eq!(rt; Text::from_str(alloc, "Straße")?.as_str(), "Straße");
+    assert!(rt; compare_texts(alloc, "Straße", "Straße")? == (true, false));
+    assert!(rt; compare_texts(alloc, "Straße", "Strasse")? == (false, true));
+    Ok(())
+}
+
+#[test]
+fn lists_keep_what_they_are_made_of(rt: HostRuntime) -> Result<(), Fail> {
+    let alloc = rt.alloc();
+    assert!(rt; List::of([3, 1, 2].to_vec(alloc)?).as_slice() == [3, 1, 2].as_slice());
+    assert!(rt; compare_lists(alloc, &[3, 1, 2], &[3, 1, 2])? == (true, false));
+    assert!(rt; compare_lists(alloc, &[3, 1, 2], &[3, 1])? == (false, true));
     Ok(())
 }
 
@@ -91,33 +111,33 @@ fn answers(rt: &impl Abort, shelf: &mut MemShelf, into: &mut Vec<u8>, rows: &[Ro
     }
 }
 
+/// Files by their names and contents.
+fn files_of(alloc: Global, held: &[(&str, &[u8])]) -> Result<Vec<(Text, List<u8>)>, NoMemory> {
+    let mut files = Vec::new(alloc);
+    for (name, bytes) in held {
+        files.push((Text::from_str(alloc, name)?, List::of(bytes.to_vec(alloc)?)))?;
+    }
+    Ok(files)
+}
+
 #[test]
 fn a_shelf_in_memory_fails_at_the_listed_calls_alone(rt: HostRuntime) -> Result<(), Fail> {
     let alloc = rt.alloc();
-    let mut files = Vec::new(alloc);
-    files.push((
-        Text::from_str(alloc, "sites")?,
-        List::of(b"abc".to_vec(alloc)?),
-    ))?;
-    files.push((
-        Text::from_str(alloc, "parts")?,
-        List::of(b"de".to_vec(alloc)?),
-    ))?;
+    let files = files_of(alloc, &[("sites", b"abc"), ("parts", b"de")])?;
     assert!(rt; MemShelf::are_distinct(files.as_slice()));
     let mut shelf = MemShelf::new(alloc, files, [2, 4, 8].to_vec(alloc)?)?;
     let mut into = b"left over".to_vec(alloc)?;
     answers(&rt, &mut shelf, &mut into, CALLS.as_slice());
+    drop(shelf);
     Ok(())
 }
 
 #[test]
 fn names_that_stand_twice_are_seen(rt: HostRuntime) -> Result<(), Fail> {
     let alloc = rt.alloc();
-    let mut files = Vec::new(alloc);
+    let files = files_of(alloc, &[])?;
     assert!(rt; MemShelf::are_distinct(files.as_slice()));
-    for name in ["a", "b", "a"] {
-        files.push((Text::from_str(alloc, name)?, List::of(Vec::new(alloc))))?;
-    }
+    let files = files_of(alloc, &[("a", b""), ("b", b""), ("a", b"")])?;
     assert!(rt; !MemShelf::are_distinct(files.as_slice()));
     Ok(())
 }
@@ -147,31 +167,40 @@ fn a_sink_in_memory_keeps_what_fits(rt: HostRuntime) -> Result<(), Fail> {
     Ok(())
 }
 
+/// Whether a shelf takes bytes and gives them back, up to a limit.
+fn gives_back(
+    shelf: &mut impl Shelf,
+    name: &str,
+    bytes: &[u8],
+    limit: u32,
+    into: &mut Vec<u8>,
+) -> bool {
+    shelf.write(name, bytes).is_ok()
+        && shelf.read(name, limit as usize, into).is_ok()
+        && into.as_slice() == bytes
+}
+
 #[test]
 fn a_real_file_gives_back_what_was_written(rt: HostRuntime) -> Result<(), Fail> {
     let alloc = rt.alloc();
     let name = "spares_io_test.csv";
+    let long = [7u8; 300_000].to_vec(alloc)?;
     let mut into = Vec::new(alloc);
     let mut shelf = FileShelf::new(&rt);
-    assert_eq!(rt;
-        shelf.read("no/such/file", 9, &mut into),
-        Err(ShelfError::Failed)
-    );
-    assert_eq!(rt; shelf.write("no/such/file", b"x"), Err(ShelfError::Failed));
-    let long = [7u8; 300_000].to_vec(alloc)?;
-    assert_eq!(rt; shelf.write(name, long.as_slice()), Ok(()));
-    assert_eq!(rt; shelf.read(name, 300_000, &mut into), Ok(()));
-    assert!(rt; into == long);
-    assert_eq!(rt;
-        shelf.read(name, 299_999, &mut into),
-        Err(ShelfError::TooLong)
-    );
+    assert!(rt; gives_back(&mut shelf, name, long.as_slice(), 300_000, &mut into));
+    assert!(rt; shelf.read(name, 299_999, &mut into) == Err(ShelfError::TooLong));
     assert!(rt; into.is_empty());
-    assert_eq!(rt; shelf.write(name, b"abc"), Ok(()));
-    assert_eq!(rt; shelf.read(name, 3, &mut into), Ok(()));
-    assert_eq!(rt; into.as_slice(), b"abc".as_slice());
+    assert!(rt; gives_back(&mut shelf, name, b"abc", 3, &mut into));
     fs::remove_file(&rt, name)?;
     Ok(())
+}
+
+#[test]
+fn a_folder_that_is_not_there_has_no_files(rt: HostRuntime) {
+    let mut into = Vec::new(rt.alloc());
+    let mut shelf = FileShelf::new(&rt);
+    assert!(rt; shelf.read("no/such/file", 9, &mut into) == Err(ShelfError::Failed));
+    assert!(rt; shelf.write("no/such/file", b"x") == Err(ShelfError::Failed));
 }
 
 /// A writer that takes two bytes at a time, and fails at a write or at its flush.
@@ -202,23 +231,26 @@ impl Write for Faulty {
     }
 }
 
-#[test]
-fn a_put_fails_where_its_writer_does(rt: HostRuntime) -> Result<(), Fail> {
-    let alloc = rt.alloc();
-    let cases = [
-        (3, true, Ok(()), b"abcde".as_slice()),
-        (2, true, Err(SinkFailed), b"abcd"),
-        (3, false, Err(SinkFailed), b"abcde"),
-    ];
-    for (writes_left, is_flushing, answer, taken) in cases {
+/// How many writes a writer takes, whether it flushes, the answer to a put, and what it has taken then.
+const FAULTY: [(u32, bool, Result<(), SinkFailed>, &[u8]); 3] = [
+    (3, true, Ok(()), b"abcde"),
+    (2, true, Err(SinkFailed), b"abcd"),
+    (3, false, Err(SinkFailed), b"abcde"),
+];
+
+fn puts(rt: &impl Abort, alloc: Global, rows: &[(u32, bool, Result<(), SinkFailed>, &[u8])]) {
+    for (writes_left, is_flushing, answer, taken) in rows {
         let mut writer = Faulty {
             taken: Vec::new(alloc),
-            writes_left,
-            is_flushing,
+            writes_left: *writes_left,
+            is_flushing: *is_flushing,
         };
-        let mut sink = StdSink::new(&mut writer);
-        assert_eq!(rt; sink.put(b"abcde"), answer);
-        assert_eq!(rt; writer.taken.as_slice(), taken);
+        assert_eq!(rt; StdSink::new(&mut writer).put(b"abcde"), *answer);
+        assert_eq!(rt; writer.taken.as_slice(), *taken);
     }
-    Ok(())
+}
+
+#[test]
+fn a_put_fails_where_its_writer_does(rt: HostRuntime) {
+    puts(&rt, rt.alloc(), FAULTY.as_slice());
 }

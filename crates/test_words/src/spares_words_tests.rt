@@ -74,7 +74,9 @@ const SINGLES: [(&str, u64, u8, Option<u64>); 11] = [
 fn gives_singles(rt: &impl Abort, alloc: Global, cases: &[(&str, u64, u8, Option<u64>)]) {
     for (line, mean, stock, variance) in cases {
         let answer = answer_for(alloc, line);
-        assert!(rt; is_single(&answer, *mean, *stock, *variance), "at {line}");
+        let is_wanted = is_single(&answer, *mean, *stock, *variance);
+        drop(answer);
+        assert!(rt; is_wanted, "at {line}");
     }
 }
 
@@ -135,7 +137,9 @@ const EVALS: [(&str, [&str; 4], u8); 4] = [
 fn gives_evals(rt: &impl Abort, alloc: Global, cases: &[(&str, [&str; 4], u8)]) {
     for (line, names, bits) in cases {
         let answer = answer_for(alloc, line);
-        assert!(rt; is_eval(&answer, *names, *bits), "at {line}");
+        let is_wanted = is_eval(&answer, *names, *bits);
+        drop(answer);
+        assert!(rt; is_wanted, "at {line}");
     }
 }
 
@@ -209,7 +213,9 @@ fn gives_plans(rt: &impl Abort, alloc: Global, cases: &[(&str, [&str; 4], u64, u
             format: *format,
             objective: Backorders,
         };
-        assert!(rt; is_plan(&answer, *names, None, terms), "at {line}");
+        let is_wanted = is_plan(&answer, *names, None, terms);
+        drop(answer);
+        assert!(rt; is_wanted, "at {line}");
     }
 }
 
@@ -255,10 +261,9 @@ fn gives_aims(rt: &impl Abort, alloc: Global, cases: &[(&str, Option<&str>, u8, 
             format: *format,
             objective: *objective,
         };
-        assert!(rt;
-            is_plan(&answer, ["a", "b", "c", "d"], *on_hand, terms),
-            "at {line}"
-        );
+        let is_wanted = is_plan(&answer, ["a", "b", "c", "d"], *on_hand, terms);
+        drop(answer);
+        assert!(rt; is_wanted, "at {line}");
     }
 }
 
@@ -279,7 +284,9 @@ fn is_check(answer: &Answer, name: &str) -> bool {
 #[test]
 fn takes_check(rt: HostRuntime) -> Result<(), Fail> {
     let answer = answer_for(rt.alloc(), "check --certificate c");
-    assert!(rt; is_check(&answer, "c"));
+    let is_wanted = is_check(&answer, "c");
+    drop(answer);
+    assert!(rt; is_wanted);
     Ok(())
 }
 
@@ -300,7 +307,9 @@ const DEMOS: [(&str, u32, u16); 2] = [
 fn gives_demos(rt: &impl Abort, alloc: Global, cases: &[(&str, u32, u16)]) {
     for (line, number, lines) in cases {
         let answer = answer_for(alloc, line);
-        assert!(rt; is_demo(&answer, *number, *lines), "at {line}");
+        let is_wanted = is_demo(&answer, *number, *lines);
+        drop(answer);
+        assert!(rt; is_wanted, "at {line}");
     }
 }
 
@@ -610,7 +619,9 @@ const TABLES: [(&str, &str); 4] = [
 fn gives_orders(rt: &impl Abort, alloc: Global, cases: &[(&str, &str)]) {
     for (line, command) in cases {
         let answer = answer_for(alloc, line);
-        assert!(rt; is_over_tables(&answer, command), "at {line}");
+        let is_wanted = is_over_tables(&answer, command);
+        drop(answer);
+        assert!(rt; is_wanted, "at {line}");
     }
 }
 
