@@ -188,7 +188,7 @@ fn pairs_of(alloc: Global, case: &Case, rates: &Rates) -> Option<Vec<PairRates>>
 }
 
 /// Whether a case has these rates or this refusal.
-fn gives(alloc: Global, case: &Case, want: Result<&[PairRates], RateFault>) -> bool {
+fn has(alloc: Global, case: &Case, want: Result<&[PairRates], RateFault>) -> bool {
     match (rates(alloc, case), want) {
         (Ok(rates), Ok(want)) => match pairs_of(alloc, case, &rates) {
             Some(pairs) => pairs.as_slice() == want,
@@ -197,6 +197,24 @@ fn gives(alloc: Global, case: &Case, want: Result<&[PairRates], RateFault>) -> b
         (Err(Stop::Fault(fault)), Err(want)) => fault == want,
         _ => false,
     }
+}
+
+/// Whether the case of these fields has these rates or this refusal.
+fn gives(
+    alloc: Global,
+    bases: u8,
+    ship: u32,
+    fields: &[(Fields, Fields)],
+    want: Result<&[PairRates], RateFault>,
+) -> bool
+    requires { bases ≤ 15 }
+{
+    let Some(case) = case_of(alloc, bases, ship, fields) else {
+        return false;
+    };
+    let is_given = has(alloc, &case, want);
+    drop(case);
+    is_given
 }
 
 /// The rates of a pair: its demand, its share, its direct pipeline and its mean without stock.
@@ -372,14 +390,11 @@ const LINE_ROWS: [LineRow; 9] = [
 fn all_give(alloc: Global, rows: &[LineRow]) -> bool {
     for row in rows {
         let fields = [(Fields(0, 0, 0, row.days), row.base)];
-        let Some(case) = case_of(alloc, 1, row.ship, &fields) else {
-            return false;
+        let is_given = match &row.want {
+            Ok(want) => gives(alloc, 1, row.ship, &fields, Ok(want)),
+            Err(want) => gives(alloc, 1, row.ship, &fields, Err(*want)),
         };
-        let gives = match &row.want {
-            Ok(want) => gives(alloc, &case, Ok(want)),
-            Err(want) => gives(alloc, &case, Err(*want)),
-        };
-        if !gives {
+        if !is_given {
             return false;
         }
     }
@@ -391,11 +406,12 @@ fn rates_a_line_unit(rt: HostRuntime) {
     assert!(&rt; all_give(rt.alloc(), LINE_ROWS.as_slice()));
 }
 
+/// The fields of a line unit at the depot and at the base.
+const LINE: (Fields, Fields) = (Fields(0, 0, 0, 1000), Fields(365_000, 5000, 0, 500));
+
 #[test]
 fn rates_a_shop_unit(rt: HostRuntime) {
-    let line = (Fields(0, 0, 0, 1000), Fields(365_000, 5000, 0, 500));
-    let fields = [line, (Fields(0, 0, 4000, 2000), Fields(0, 2500, 4000, 500))];
-    let case = case_of(rt.alloc(), 1, 500, &fields).expect(&rt, "a case");
+    let fields = [LINE, (Fields(0, 0, 4000, 2000), Fields(0, 2500, 4000, 500))];
     let want = [
         pair!(
             (1_825_000_000, 100_000_000),
@@ -422,11 +438,13 @@ fn rates_a_shop_unit(rt: HostRuntime) {
             146_000_000_000_000_000_000,
         ),
     ];
-    assert!(&rt; gives(rt.alloc(), &case, Ok(&want)));
+    assert!(&rt; gives(rt.alloc(), 1, 500, &fields, Ok(&want)));
+}
 
-    // No repair at the depot needs the shop unit, and the base sends none: its demand at the depot is 0.
-    let fields = [line, (Fields(0, 0, 0, 2000), Fields(0, 10_000, 4000, 500))];
-    let case = case_of(rt.alloc(), 1, 500, &fields).expect(&rt, "a case");
+// No repair at the depot needs the shop unit, and the base sends none: its demand at the depot is 0.
+#[test]
+fn rates_a_shop_unit_without_demand(rt: HostRuntime) {
+    let fields = [LINE, (Fields(0, 0, 0, 2000), Fields(0, 10_000, 4000, 500))];
     let want = [
         pair!(
             (1_825_000_000, 100_000_000),
@@ -448,9 +466,11 @@ fn rates_a_shop_unit(rt: HostRuntime) {
             36_500_000_000_000_000_000,
         ),
     ];
-    assert!(&rt; gives(rt.alloc(), &case, Ok(&want)));
+    assert!(&rt; gives(rt.alloc(), 1, 500, &fields, Ok(&want)));
+}
 
-    // The largest fields, at 15 bases.
+#[test]
+fn rates_the_largest_fields_at_15_bases(rt: HostRuntime) {
     let fields = [
         (
             Fields(0, 0, 0, 999_999),
@@ -458,10 +478,9 @@ fn rates_a_shop_unit(rt: HostRuntime) {
         ),
         (Fields(0, 0, 10_000, 999_999), Fields(0, 0, 10_000, 999_999)),
     ];
-    let case = case_of(rt.alloc(), 15, 999_999, &fields).expect(&rt, "a case");
     let want = RateFault::PipelineTooLarge {
         place: Place::Pair(PartId(0), SiteId(0)),
         mean: in_days!(29_999_970_000_000_000_000_000_000_000),
     };
-    assert!(&rt; gives(rt.alloc(), &case, Err(want)));
+    assert!(&rt; gives(rt.alloc(), 15, 999_999, &fields, Err(want)));
 }

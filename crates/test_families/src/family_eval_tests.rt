@@ -268,13 +268,10 @@ fn stock(part: u16, site: u8, stock: u8) -> StockRow
     }
 }
 
-/// Whether the family has these figures, alone and among all.
-fn gives<const F: u32>(alloc: Global, want: &Family) -> bool
+/// Whether the family of a case has these figures, alone and among all.
+fn has_figures<const F: u32>(alloc: Global, case: &Case, want: &Family) -> bool
     requires { InScale F }
 {
-    let Some(case) = case_of(alloc, want.demand, want.weight) else {
-        return false;
-    };
     if case.part_count() != 2 || case.site_count() != 3 || !case.is_line(PartId(0)) {
         return false;
     }
@@ -286,17 +283,28 @@ fn gives<const F: u32>(alloc: Global, want: &Family) -> bool
         stock(1, 1, want.stocks[4]),
         stock(1, 2, want.stocks[5]),
     ];
-    let (Ok(rates), Ok(stocks)) = (rates(alloc, &case), stocks_from(alloc, &case, &rows)) else {
+    let (Ok(rates), Ok(stocks)) = (rates(alloc, case), stocks_from(alloc, case, &rows)) else {
         return false;
     };
-    let one = evaluate::<F>(alloc, &case, &rates, PartId(0), &stocks);
-    let all = evaluate_all::<F>(alloc, &case, &rates, &stocks);
-    match (one, all) {
-        (Ok(family), Ok(families)) => {
-            families.len() == 1 && family_is(&family, want) && family_is(&families[0], want)
-        }
-        _ => false,
-    }
+    let one = evaluate::<F>(alloc, case, &rates, PartId(0), &stocks);
+    let all = evaluate_all::<F>(alloc, case, &rates, &stocks);
+    drop((rates, stocks));
+    let (Ok(family), Ok(families)) = (one, all) else {
+        return false;
+    };
+    families.len() == 1 && family_is(&family, want) && family_is(&families[0], want)
+}
+
+/// Whether its case is made, and its family has these figures.
+fn gives<const F: u32>(alloc: Global, want: &Family) -> bool
+    requires { InScale F }
+{
+    let Some(case) = case_of(alloc, want.demand, want.weight) else {
+        return false;
+    };
+    let has = has_figures::<F>(alloc, &case, want);
+    drop(case);
+    has
 }
 
 #[test]
