@@ -235,7 +235,9 @@ fn answer_of(alloc: Global, bytes: &[u8]) -> Answer {
         Err(Stop::NoMemory) => return Answer::Else,
         Err(Stop::Fault(fault)) => return Answer::Unread(fault),
     };
-    match check(alloc, &certificate) {
+    let answer = check(alloc, &certificate);
+    drop(certificate);
+    match answer {
         Ok(accepted) => Answer::Takes(accepted),
         Err(Stop::NoMemory) => Answer::Else,
         Err(Stop::Fault(Reject::Rate(RateFault::ThinPipeline { place, .. }))) => {

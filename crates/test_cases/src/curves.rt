@@ -66,7 +66,9 @@ const FLEET: [&str; 3] = [
 fn counts(alloc: Global, files: [&str; 3]) -> Option<(u64, u64, Result<u64, u64>)> {
     let case = family_of(alloc, files)?;
     let line = PartId(0);
-    Some((choices(&case, line), tables(&case, line), work(&case)))
+    let counts = (choices(&case, line), tables(&case, line), work(&case));
+    drop(case);
+    Some(counts)
 }
 
 #[test]
@@ -109,15 +111,24 @@ fn digest(curve: &Curve) -> (u32, u128) {
 }
 
 /// The curve of a case's first family.
-fn whole(alloc: Global, files: [&str; 3]) -> Option<(u32, u128)> {
-    let case = family_of(alloc, files)?;
+fn whole_of(alloc: Global, case: &Case) -> Option<(u32, u128)>
+    requires { IsLine case.now 0 }
+{
     let line = PartId(0);
-    if tables(&case, line) > 1_000_000 {
+    if tables(case, line) > 1_000_000 {
         return None;
     }
-    let rates = rates_of(alloc, &case)?;
-    let curve = curve(alloc, &case, &rates, line, &Plain).ok()?;
+    let rates = rates_of(alloc, case)?;
+    let curve = curve(alloc, case, &rates, line, &Plain).ok()?;
     Some(digest(&curve))
+}
+
+/// The curve of the first family of these tables.
+fn whole(alloc: Global, files: [&str; 3]) -> Option<(u32, u128)> {
+    let case = family_of(alloc, files)?;
+    let found = whole_of(alloc, &case);
+    drop(case);
+    found
 }
 
 #[test]
@@ -178,19 +189,28 @@ fn are_ordered(alloc: Global, case: &Case, bounds: &Bounds) -> bool
 }
 
 /// The tables and the curve of a case's first family within bounds.
-fn between(alloc: Global, files: [&str; 3], bounds: &Bounds) -> Option<(u64, (u32, u128))> {
-    let case = family_of(alloc, files)?;
-    if !are_ordered(alloc, &case, bounds) {
+fn between_of(alloc: Global, case: &Case, bounds: &Bounds) -> Option<(u64, (u32, u128))>
+    requires { IsLine case.now 0 }
+{
+    if !are_ordered(alloc, case, bounds) {
         return None;
     }
     let line = PartId(0);
-    let tables = tables_within(&case, line, bounds);
+    let tables = tables_within(case, line, bounds);
     if tables > 1_000_000 {
         return None;
     }
-    let rates = rates_of(alloc, &case)?;
-    let curve = curve_within(alloc, &case, &rates, line, bounds, &Plain).ok()?;
+    let rates = rates_of(alloc, case)?;
+    let curve = curve_within(alloc, case, &rates, line, bounds, &Plain).ok()?;
     Some((tables, digest(&curve)))
+}
+
+/// The same of the first family of these tables.
+fn between(alloc: Global, files: [&str; 3], bounds: &Bounds) -> Option<(u64, (u32, u128))> {
+    let case = family_of(alloc, files)?;
+    let found = between_of(alloc, &case, bounds);
+    drop(case);
+    found
 }
 
 #[test]
