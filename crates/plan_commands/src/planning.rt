@@ -156,14 +156,39 @@ fn certified_outcome(
     })
 }
 
+/// The plan of a ground from its held stocks, and the text of its certificate under this name.
+fn planned_from(
+    alloc: Global,
+    ground: Ground,
+    held: Stocks,
+    name: &Text,
+) -> Result<TaskOutcome, NoMemory>
+    requires ground { IsGround ground }
+    requires held { held ≡ held_stocks_of (planning_on ground) }
+    ensures { IfOk result (IsMade (Is (Ok (make_plan (planning_on ground) name.now)))) }
+{
+    match plan_of(alloc, &ground, &held) {
+        Ok(plan) => certified_outcome(alloc, ground, &held, plan, name),
+        Err(no_memory) => {
+            drop(ground);
+            drop(held);
+            Err(no_memory)
+        }
+    }
+}
+
 /// The plan of a ground, and the text of its certificate under this name.
 fn planned(alloc: Global, ground: Ground, name: &Text) -> Result<TaskOutcome, NoMemory>
     requires { IsGround ground }
     ensures { IfOk result (IsMade (Is (Ok (make_plan (planning_on ground) name.now)))) }
 {
-    let held = held_in(alloc, &ground.given.case, &ground.on_hand)?;
-    let plan = plan_of(alloc, &ground, &held)?;
-    certified_outcome(alloc, ground, &held, plan, name)
+    match held_in(alloc, &ground.given.case, &ground.on_hand) {
+        Ok(held) => planned_from(alloc, ground, held, name),
+        Err(no_memory) => {
+            drop(ground);
+            Err(no_memory)
+        }
+    }
 }
 
 /// Carries out `plan` on the tables of a case and on the table of stocks on hand, if there is one: the report and,
