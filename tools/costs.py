@@ -7,6 +7,8 @@
     python3 tools/costs.py table LOG --write     puts it between the two marks in docs/CONTRIBUTING.md
     python3 tools/costs.py functions CRATE       prints the seconds of the crate's dearest functions and lemma files in its
                                                  last check; the check begins with no out/incremental and has one job
+    python3 tools/costs.py paths                 prints the crates from which the most paths lead down through crates.txt:
+                                                 some kits sum up a library's files anew for each path, twice
 
 A check is a process of the prover. Its folder tells what it is for: a crate's own folder for its proof or, with --test, for
 its tests, and a temporary copy for a wrong body. Its seconds are read twice a second, so up to half a second of each is lost.
@@ -138,6 +140,27 @@ def functions_of(crate):
     return "\n".join([head, *(f"{sum(it.values()):6.1f} {it['Lts']:6.1f} {it['Proof']:6.1f}  {name}" for name, it in dearest)])
 
 
+def libraries_of():
+    """Returns the libraries of this repository that each crate names, from crates.txt."""
+    with open(f"{TOP}/crates.txt", encoding="utf-8") as listed:
+        lines = [line.partition("#")[0].strip() for line in listed]
+    named = {line.partition(":")[0]: line.partition(":")[2].split() for line in lines if line}
+    return {crate: [it for it in below if it in named] for crate, below in named.items()}
+
+
+def paths():
+    """Returns a line for each of the crates from which the most paths lead down, the path of no step counted too."""
+    libraries, counted = libraries_of(), {}
+
+    def count(crate):
+        if crate not in counted:
+            counted[crate] = 1 + sum(count(it) for it in libraries[crate])
+        return counted[crate]
+
+    most = sorted(libraries, key=lambda it: (-count(it), it))[:DEAREST]
+    return "\n".join(f"{count(it):7}  {it}" for it in most)
+
+
 def main(words):
     """Does what the words ask for, and returns the exit status."""
     if words[:1] == ["watch"] and len(words) > 2:
@@ -148,6 +171,9 @@ def main(words):
         return 0
     if words[:1] == ["functions"] and len(words) == 2:
         print(functions_of(words[1]))
+        return 0
+    if words == ["paths"]:
+        print(paths())
         return 0
     print(__doc__.strip(), file=sys.stderr)
     return 2
