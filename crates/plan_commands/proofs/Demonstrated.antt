@@ -13,7 +13,6 @@ use Rattle.certified_plan.specs.Inputs.{IsPlanOn}
 use Rattle.certified_plan.proofs.Public.{accepted, none_is_held}
 use Rattle.demo_accepts.proofs.Public.{faultless, zeros_hold}
 use Rattle.demo_accepts.specs.Demonstrations.{IsDemonstrated, budget_of, demo_terms}
-use Rattle.demonstration.proofs.Public.{are_terms, demo_work}
 use Rattle.fleet_model.specs.Fleet.{IsAllocation, cost, case_total}
 use Rattle.fleet_plan.specs.Laws.{IsAcceptedCase}
 use Rattle.fleet_plan.specs.Plans.{CasePlan, IsPlainPlan}
@@ -28,6 +27,7 @@ use Rattle.command_outcomes.specs.declared.done.Done.TheVariants.{Demo}
 use Rattle.command_outcomes.proofs.Public.{shown}
 use Rattle.family_points.specs.Points.{plain_ends}
 use Rattle.spares_input.specs.Stocks.{nothing_held}
+use Rattle.plan_commands.proofs.Told.{are_terms, demo_work}
 
 module _ (number lines : ℕ) (few : lines ≤ 80) (summary : Summary) (h : IsDemonstrated number lines summary) where
   abbrev case : CaseRows

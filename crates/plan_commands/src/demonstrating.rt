@@ -7,9 +7,9 @@ ghost use Rattle.spares_words.specs.declared.order.Order.TheVariants as order;
 ghost use Rattle.command_outcomes.specs.Making.{Is, MakesBy};
 ghost use Rattle.command_outcomes.specs.Task.{demonstrate};
 
+use crate::summing_up::demonstrate;
 use answers::Stop;
 use command_outcomes::{Done, TaskOutcome};
-use demonstration::demonstrate;
 use refusals::Failure;
 use std::alloc::Global;
 

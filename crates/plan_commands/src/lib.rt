@@ -1,9 +1,11 @@
 //! The commands that plan a case once: `plan`, `sweep`, `target` and `demo`.
 #![tactic(auto)]
 
+mod confirming;
 mod curves;
 mod demonstrating;
 mod planning;
+mod summing_up;
 mod sweeping;
 mod targeting;
 

@@ -1,5 +1,5 @@
-use Rattle.demonstration.proofs.Told.{aims, is_accepted, is_short}
-use Rattle.demonstration.proofs.demonstrating.confirm_plan.Goals as goal
+use Rattle.plan_commands.proofs.Told.{aims, is_accepted, is_short}
+use Rattle.plan_commands.proofs.summing_up.confirm_plan.Goals as goal
 
 pub confirm-requires-clause-objective : goal.confirm-requires-clause-objective
 confirm-requires-clause-objective c =

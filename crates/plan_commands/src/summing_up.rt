@@ -8,7 +8,7 @@ ghost use Rattle.demo_accepts.specs.Demonstrations.{IsDemonstrated, demo_terms};
 ghost use Rattle.held_work.specs.Work.{held_work_of};
 ghost use Rattle.plan_report.specs.Fits.{FitsSummary};
 ghost use Rattle.spares_input.specs.Stocks.{nothing_held};
-ghost use Rattle.demonstration.specs.Summaries.{summary_in};
+ghost use Rattle.plan_commands.specs.Summaries.{summary_in};
 
 use crate::confirming::confirm;
 use answers::NoMemory;
@@ -67,7 +67,7 @@ fn confirm_plan(
 /// The summary of a demonstration. It plans the case of a number with 1 to 80 line units under 2,000 of money for each
 /// of them, writes the plan's certificate, reads it back and checks it, all in memory (no clause says so). Want of
 /// memory is the only error.
-pub fn demonstrate(alloc: Global, number: u32, lines: u16) -> Result<Summary, NoMemory>
+pub(crate) fn demonstrate(alloc: Global, number: u32, lines: u16) -> Result<Summary, NoMemory>
     requires some { 1 ≤ lines }
     requires few { lines ≤ 80 }
     ensures summary { IfOk result (IsDemonstrated number lines) }

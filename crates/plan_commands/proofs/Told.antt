@@ -24,7 +24,7 @@ use Rattle.plan_report.specs.declared.summary.Summary.{Summary}
 use Rattle.price_certificate.specs.Certificates.{cert_text, certificate_limit}
 use Rattle.price_certificate.specs.declared.certificate.Certificate.{Certificate}
 use Rattle.price_certificate.specs.declared.certificate.Objective.TheVariants.{Backorders}
-use Rattle.demonstration.specs.Summaries.{summary_in}
+use Rattle.plan_commands.specs.Summaries.{summary_in}
 use Rattle.family_points.specs.Points.{plain_ends}
 
 -- ---- the work

@@ -2,8 +2,8 @@ use Rattle.std.proofs.Common.{ℕ, ◌*◌, ap, subst, sym}
 use Rattle.certified_plan.specs.Inputs.{AreTerms}
 use Rattle.demo_accepts.specs.Demonstrations.{IsDemonstrated, demo_terms}
 use Rattle.plan_report.specs.Fits.{FitsSummary}
-use Rattle.demonstration.proofs.Told.{after_call, are_terms, demo_work, is_demonstrated, on_plan, sums_fit}
-use Rattle.demonstration.proofs.demonstrating.demonstrate.Goals as goal
+use Rattle.plan_commands.proofs.Told.{after_call, are_terms, demo_work, is_demonstrated, on_plan, sums_fit}
+use Rattle.plan_commands.proofs.summing_up.demonstrate.Goals as goal
 
 pub plan_case-requires-clause-work : goal.plan_case-requires-clause-work
 plan_case-requires-clause-work c =

@@ -5,7 +5,7 @@ use Rattle.price_certificate.specs.Certificates.{IsWellFormed}
 use Rattle.price_certificate.specs.declared.certificate.Certificate.{Certificate}
 use Rattle.price_certificate.specs.declared.certificate.Objective.TheVariants.{Backorders}
 use Rattle.spares_input.specs.Stocks.{nothing_held}
-use Rattle.demonstration.proofs.confirming.confirm.Goals as goal
+use Rattle.plan_commands.proofs.confirming.confirm.Goals as goal
 
 pub check_sound-requires-clause-formed : goal.check_sound-requires-clause-formed
 check_sound-requires-clause-formed c = subst IsWellFormed (sym c.in_ok-back.ensures) c.requires.formed
