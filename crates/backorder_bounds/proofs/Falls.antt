@@ -1,6 +1,6 @@
 -- Lower bounds from stock to stock.
 use Rattle.std.proofs.Common.{◌≡◌, ℕ, zero, suc, ◌+◌, ◌-◌, ◌*◌, ◌/◌, ◌<◌, ◌≤◌, ◌^◌, List, inl, inr, sym, ap, ◌∙◌, refl, arith, subst, le_trans, pow_pos, mul-le-mul, mul-le-mul_left, mul-le-mul_right, le_of_mul-le-mul_right, pow-add, add-one}
-use Rattle.std.proofs.Math.Nat.{mul-pos, div-le_of_le-mul, div-mul-le_self}
+use Rattle.std.proofs.Math.Nat.{mul-pos, div-le_of_le-mul, div-lt_iff_lt-mul, div-mul-le_self}
 use Rattle.std.proofs.lemmas.Nat.{le-div}
 use Rattle.std.proofs.lemmas.Bool.{cases_lt, cases_Bool}
 use Rattle.list_laws.proofs.Public.{total, total_most}
@@ -23,12 +23,12 @@ use Rattle.backorder_bounds.specs.Falling.{IsFallen, IsFlat, IsWalk}
 -- ---- one step
 
 -- a share by no more than the inverse of the sum, rounded down, is at most the share: t parts of a unit of 56 places
-share_low : (w e i sum c t u o : ℕ) → 0 < t → 0 < sum → t * o ≡ 2 ^ 56 → w * u ≤ e → i * sum ≤ 2 ^ 56 * u → c * t ≤ w * i → c ≤ e * o / sum
+share_low : (w e i sum c t u o : ℕ) → 0 < t → 0 < sum → t * o ≡ 2 ^ 72 → w * u ≤ e → i * sum ≤ 2 ^ 72 * u → c * t ≤ w * i → c ≤ e * o / sum
 share_low w e i sum c t u o p q k h m n =
     let a : c * t * sum ≤ w * i * sum = mul-le-mul_right sum n in
-    let d : w * (i * sum) ≤ w * (2 ^ 56 * u) = mul-le-mul_left w m in
+    let d : w * (i * sum) ≤ w * (2 ^ 72 * u) = mul-le-mul_left w m in
     let g : w * u * (t * o) ≤ e * (t * o) = mul-le-mul_right (t * o) h in
-    let j : w * u * 2 ^ 56 ≡ w * u * (t * o) = ap (λ x. w * u * x) (sym k) in
+    let j : w * u * 2 ^ 72 ≡ w * u * (t * o) = ap (λ x. w * u * x) (sym k) in
     let r : c * sum ≤ e * o = le_of_mul-le-mul_right {m = c * sum} {n = e * o} {k = t} (omega (arith, a, d, g, j)) p in
     le-div c (e * o) sum q r
 
@@ -122,7 +122,7 @@ sum_least f m d =
     omega (arith, w, t, u)
 
 -- the chance at s
-chance_low : (f : ℕ) (m d : Ends) (s w i c t : ℕ) → s ≤ 63 → 0 < t → t * 2 ^ f ≡ 2 ^ 56 → IsOverSum f m d i → w * coarse_unit f ≤ (weight_ends f m d s).lo → c * t ≤ w * i
+chance_low : (f : ℕ) (m d : Ends) (s w i c t : ℕ) → s ≤ 63 → 0 < t → t * 2 ^ f ≡ 2 ^ 72 → IsOverSum f m d i → w * coarse_unit f ≤ (weight_ends f m d s).lo → c * t ≤ w * i
     → c ≤ (chance_ends f (all_weights f m d) (all_sum f m d) s).lo
 unfolding chance_ends
 chance_low f m d s w i c t l p o h k n =
@@ -201,18 +201,25 @@ fallen_first f m v lead mean tail e u h = record {
   };
 }
 
+-- a chance in at most 52 places has 64 bits
+pub chance_fits : (f w i : ℕ) → f ≤ 52 → w ≤ 8 * 2 ^ 36 → i ≤ 2 ^ 36 → w * i / 2 ^ (72 - f) < 2 ^ 64
+chance_fits f w i l a b =
+    let e : 2 ^ (72 - f) ≡ 2 ^ 20 * 2 ^ (52 - f) = ap (λ x. 2 ^ x) (let z : 72 - f ≡ 20 + (52 - f) = omega (arith, l) in z) ∙ pow-add 2 20 (52 - f) in
+    let p : w * i ≤ 8 * 2 ^ 36 * 2 ^ 36 = mul-le-mul a b in
+    (div-lt_iff_lt-mul (pow_pos (72 - f))).1 (omega (arith, e, p, pow_pos (52 - f)))
+
 -- at the next stock
-pub fallen_next : (f : ℕ) (m v : Ends) (lead : Lead) (s : ℕ) (now : Falling) (chance ratio tail weight low above : ℕ) → s ≤ 63 → 38 ≤ f → f ≤ 52 → 0 < now.low
-    → IsLead f m (excess_ends f m v) lead → IsFallen f m v lead s now → chance ≡ now.weight * lead.inverse / 2 ^ (56 - f) → ratio ≡ now.above / (s + 1)
-    → tail ≡ now.tail - chance → weight ≤ now.weight * ratio / 2 ^ 28 → low ≡ now.low - tail → above ≡ now.above + lead.under.step
+pub fallen_next : (f : ℕ) (m v : Ends) (lead : Lead) (s : ℕ) (now : Falling) (chance ratio tail weight low above : ℕ) → s ≤ 63 → 46 ≤ f → f ≤ 52 → 0 < now.low
+    → IsLead f m (excess_ends f m v) lead → IsFallen f m v lead s now → chance ≡ now.weight * lead.inverse / 2 ^ (72 - f) → ratio ≡ now.above / (s + 1)
+    → tail ≡ now.tail - chance → weight ≤ now.weight * ratio / 2 ^ 36 → low ≡ now.low - tail → above ≡ now.above + lead.under.step
     → IsFallen f m v lead (s + 1) (record { low = low; tail = tail; weight = weight; above = above })
 fallen_next f m v lead s now chance ratio tail weight low above l fl fm p h n ec er et lw el ea =
     let d = excess_ends f m v in
     let u = coarse_unit f in
     let c = n.chances p in
-    let t : 2 ^ (56 - f) * 2 ^ f ≡ 2 ^ 56 = sym (ap (λ x. 2 ^ x) (let z : 56 ≡ (56 - f) + f = omega (arith, fm) in z) ∙ pow-add 2 (56 - f) f) in
+    let t : 2 ^ (72 - f) * 2 ^ f ≡ 2 ^ 72 = sym (ap (λ x. 2 ^ x) (let z : 72 ≡ (72 - f) + f = omega (arith, fm) in z) ∙ pow-add 2 (72 - f) f) in
     let a : chance ≤ (chance_ends f (all_weights f m d) (all_sum f m d) s).lo =
-    chance_low f m d s now.weight lead.inverse chance (2 ^ (56 - f)) l (pow_pos (56 - f)) t h.sum c.weight (rw ec (div-mul-le_self (now.weight * lead.inverse) (2 ^ (56 - f)))) in
+    chance_low f m d s now.weight lead.inverse chance (2 ^ (72 - f)) l (pow_pos (72 - f)) t h.sum c.weight (rw ec (div-mul-le_self (now.weight * lead.inverse) (2 ^ (72 - f)))) in
     let b : 2 ^ f ≤ (below_ends f (all_weights f m d) (all_sum f m d) (s + 1)).lo + tail =
     (let j = below_low f (all_weights f m d) (all_sum f m d) s (below_ends f (all_weights f m d) (all_sum f m d) s).lo chance (omega arith) a in omega (arith, j, et, c.tail)) in
     let r : ratio * (s + 1) ≤ lead.under.first + lead.under.step * s = (let j : now.above / (s + 1) * (s + 1) ≤ now.above = div-mul-le_self now.above (s + 1) in rw er (omega (arith, j, c.above))) in

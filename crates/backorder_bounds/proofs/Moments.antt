@@ -104,39 +104,39 @@ module _ (f : ℕ) (m v : Ends) (p : 0 < m.lo) (o : m.lo ≤ m.hi) where
   ordered h = omega (arith, floor_below_ceil (v.lo * 2 ^ f) m.hi (v.hi * 2 ^ f) m.lo (mul-le-mul_right (2 ^ f) h) p o)
 
   -- the mean over no smaller a variance, less a unit, and over no larger a one, and a unit more
-  pub inverse_is : (mean variance : Coarse) (least most low high : ℕ) → 38 ≤ f → v.lo ≤ v.hi → IsCoarse f m mean → IsCoarse f v variance → 0 < mean.lo
-      → least ≡ max variance.lo mean.lo → most ≡ max variance.hi mean.hi → low ≡ mean.lo * 2 ^ 28 / most - 1 → high ≡ min (mean.hi * 2 ^ 28 / least + 2) (2 ^ 28)
-      → low ≤ high → 2 ^ 28 ≤ 8 * low → IsInverse f (excess_ends f m v) low high
+  pub inverse_is : (mean variance : Coarse) (least most low high : ℕ) → 46 ≤ f → v.lo ≤ v.hi → IsCoarse f m mean → IsCoarse f v variance → 0 < mean.lo
+      → least ≡ max variance.lo mean.lo → most ≡ max variance.hi mean.hi → low ≤ mean.lo * 2 ^ 36 / most - 1 → high ≡ min (mean.hi * 2 ^ 36 / least + 2) (2 ^ 36)
+      → low ≤ high → 2 ^ 36 ≤ 8 * low → IsInverse f (excess_ends f m v) low high
   unfolding d
   inverse_is mean variance least most low high l n cm cv q et eb el eh k r =
       let u = coarse_unit f in
-      let w : 2 ^ f ≡ 2 ^ 28 * u = places f l in
-      let up : 0 < u = pow_pos (f - 28) in
+      let w : 2 ^ f ≡ 2 ^ 36 * u = places f l in
+      let up : 0 < u = pow_pos (f - 36) in
       record {
-        under = (let a : (low + 1) * most ≤ mean.lo * 2 ^ 28 = (let b : mean.lo * 2 ^ 28 / most * most ≤ mean.lo * 2 ^ 28 = div-mul-le_self (mean.lo * 2 ^ 28) most in
-            let c : low + 1 ≡ mean.lo * 2 ^ 28 / most = omega (arith, el, r) in rw c b) in
-            let b : (low + 1) * most * (u * u) ≤ mean.lo * 2 ^ 28 * (u * u) = mul-le-mul_right (u * u) a in
+        under = (let a : (low + 1) * most ≤ mean.lo * 2 ^ 36 = (let b : mean.lo * 2 ^ 36 / most * most ≤ mean.lo * 2 ^ 36 = div-mul-le_self (mean.lo * 2 ^ 36) most in
+            let c : low + 1 ≤ mean.lo * 2 ^ 36 / most = omega (arith, el, r) in le_trans (mul-le-mul_right most c) b) in
+            let b : (low + 1) * most * (u * u) ≤ mean.lo * 2 ^ 36 * (u * u) = mul-le-mul_right (u * u) a in
             let c : mean.lo * u * 2 ^ f ≤ m.lo * 2 ^ f = mul-le-mul_right (2 ^ f) cm.low in
-            let e : mean.lo * u * 2 ^ f ≡ mean.lo * 2 ^ 28 * (u * u) = ap (λ x. mean.lo * u * x) w ∙ omega arith in
+            let e : mean.lo * u * 2 ^ f ≡ mean.lo * 2 ^ 36 * (u * u) = ap (λ x. mean.lo * u * x) w ∙ omega arith in
             let i : mean.hi * u ≤ most * u = mul-le-mul_right u (omega (arith, eb)) in
             let j : variance.hi * u ≤ most * u = mul-le-mul_right u (omega (arith, eb)) in
             let z = low_most ((low + 1) * u) (most * u) (omega (arith, i, cm.high)) (omega (arith, j, cv.high)) (omega (arith, b, c, e)) in
             le_trans (mul-le-mul_right (1 * 2 ^ f + d.hi) (let y : low * u ≤ (low + 1) * u - 1 = omega (arith, up) in y)) z);
-        over = (let h = mean.hi * 2 ^ 28 / least + 1 in
+        over = (let h = mean.hi * 2 ^ 36 / least + 1 in
             let t = max v.lo m.lo in
-            let a : mean.hi * 2 ^ 28 < least * h = lt-mul-div-succ (mean.hi * 2 ^ 28) (omega (arith, et, q)) in
-            let b : mean.hi * 2 ^ 28 * (u * u) ≤ least * h * (u * u) = mul-le-mul_right (u * u) (omega (arith, a)) in
+            let a : mean.hi * 2 ^ 36 < least * h = lt-mul-div-succ (mean.hi * 2 ^ 36) (omega (arith, et, q)) in
+            let b : mean.hi * 2 ^ 36 * (u * u) ≤ least * h * (u * u) = mul-le-mul_right (u * u) (omega (arith, a)) in
             let c : m.hi * 2 ^ f ≤ mean.hi * u * 2 ^ f = mul-le-mul_right (2 ^ f) cm.high in
-            let e : mean.hi * u * 2 ^ f ≡ mean.hi * 2 ^ 28 * (u * u) = ap (λ x. mean.hi * u * x) w ∙ omega arith in
+            let e : mean.hi * u * 2 ^ f ≡ mean.hi * 2 ^ 36 * (u * u) = ap (λ x. mean.hi * u * x) w ∙ omega arith in
             let i : least * u ≤ t = elim (cases_lt variance.lo mean.lo) [
               | inl y ↦ (let g : least ≡ mean.lo = omega (arith, et, y) in rw g (omega (arith, cm.low)))
               | inr y ↦ (let g : least ≡ variance.lo = omega (arith, et, y) in rw g (omega (arith, cv.low)))
             ] in
             let j : h * u * (least * u) ≤ h * u * t = mul-le-mul_left (h * u) i in
             let z = high_least (h * u) t refl (omega (arith, b, c, e, j)) in
-            let g : min (h * u + 1) (2 ^ f) ≤ high * u = elim (cases_lt (h + 1) (2 ^ 28)) [
+            let g : min (h * u + 1) (2 ^ f) ≤ high * u = elim (cases_lt (h + 1) (2 ^ 36)) [
               | inl y ↦ (let x : high ≡ h + 1 = omega (arith, eh, y) in rw x (omega (arith, up)))
-              | inr y ↦ (let x : high ≡ 2 ^ 28 = omega (arith, eh, y) in rw x (omega (arith, w)))
+              | inr y ↦ (let x : high ≡ 2 ^ 36 = omega (arith, eh, y) in rw x (omega (arith, w)))
             ] in
             le_trans z (mul-le-mul_right (1 * 2 ^ f + d.lo) g));
         ordered = k;

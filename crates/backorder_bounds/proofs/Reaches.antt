@@ -21,7 +21,7 @@ pub one_more : (a x b : ℕ) → 0 < b → a ≤ x → div_ceil a b ≤ x / b + 
 one_more a x b p h = ceil_most a b (x / b + 1) p (omega (arith, h, lt-mul-div-succ x p))
 
 -- at the stock 0
-pub reached_first : (f : ℕ) (m d : Ends) (start : Start) → IsStart f m d start → start.high ≤ 8 * 2 ^ 28 → IsReached f m d 0 0 start.high
+pub reached_first : (f : ℕ) (m d : Ends) (start : Start) → IsStart f m d start → start.high ≤ 8 * 2 ^ 36 → IsReached f m d 0 0 start.high
 reached_first f m d start h l = record {
   before = rw sum_hi (omega arith);
   here = h.high;
@@ -78,14 +78,14 @@ below_most f m d over k ratio last c h r n =
 
 -- at the next index, by what the ratio there is at most
 pub reached_next : (f : ℕ) (m d : Ends) (over : Rising) (k ratio sum last next : ℕ) → AreOver f m d over → IsReached f m d k sum last
-    → over.first + over.step * k ≤ ratio * (k + 1) → last * ratio < 2 ^ 28 * next → next ≤ 8 * 2 ^ 28 → IsReached f m d (k + 1) (sum + last) next
+    → over.first + over.step * k ≤ ratio * (k + 1) → last * ratio < 2 ^ 36 * next → next ≤ 8 * 2 ^ 36 → IsReached f m d (k + 1) (sum + last) next
 reached_next f m d over k ratio sum last next h n q l most =
     let u = coarse_unit f in
     let z : k + 1 - 1 ≡ k = omega arith in
-    let o : 2 ^ f ≡ 2 ^ 28 * u = places f h.places in
+    let o : 2 ^ f ≡ 2 ^ 36 * u = places f h.places in
     let r : (ratio_ends f m d (k + 1)).hi ≤ ratio * u = ratio_most f m d over (k + 1) ratio (omega arith) h (rw z q) in
     let s : total (λ x. (weight_ends f m d x).hi) k ≤ sum * u = rw sum_hi at n.before in
-    let t : (last * u) * (ratio * u) / 2 ^ f + 1 ≤ next * u = product_high last ratio next u (2 ^ f) (pow_pos f) (pow_pos (f - 28)) o l in
+    let t : (last * u) * (ratio * u) / 2 ^ f + 1 ≤ next * u = product_high last ratio next u (2 ^ f) (pow_pos f) (pow_pos (f - 36)) o l in
     record {
       before = rw (sum_hi, add-one) (omega (arith, s, n.here));
       here = elim (cases_lt k (pivot_at f m d)) [
@@ -98,50 +98,50 @@ reached_next f m d over k ratio sum last next h n q l most =
 
 -- the ratio rounded up
 pub reached_walked : (f : ℕ) (m d : Ends) (over : Rising) (k : ℕ) (now next : Reached) → AreOver f m d over → IsReached f m d k now.sum now.last → now.above ≡ over.first + over.step * k
-    → next.sum ≡ now.sum + now.last → next.last ≡ now.last * (now.above / (k + 1) + 1) / 2 ^ 28 + 1 → next.last ≤ 8 * 2 ^ 28 → IsReached f m d (k + 1) next.sum next.last
+    → next.sum ≡ now.sum + now.last → next.last ≡ now.last * (now.above / (k + 1) + 1) / 2 ^ 36 + 1 → next.last ≤ 8 * 2 ^ 36 → IsReached f m d (k + 1) next.sum next.last
 reached_walked f m d over k now next h n ea es el most =
     let ratio = now.above / (k + 1) + 1 in
     let a : now.above < (k + 1) * ratio = lt-mul-div-succ now.above (omega arith) in
-    let b : now.last * ratio < 2 ^ 28 * next.last = rw el (lt-mul-div-succ (now.last * ratio) (lit< tt)) in
+    let b : now.last * ratio < 2 ^ 36 * next.last = rw el (lt-mul-div-succ (now.last * ratio) (lit< tt)) in
     rw es (reached_next f m d over k ratio now.sum now.last next.last h n (omega (arith, a, ea)) b most)
 
 -- a weight isn't larger than the one before but by the rounding, where the ratio isn't above 1 but by that
-pub not_larger : (last above k : ℕ) → last ≤ 8 * 2 ^ 28 → above < (2 ^ 28 + 255) * (k + 1) → last * (above / (k + 1) + 1) / 2 ^ 28 ≤ last + 2 ^ 11
+pub not_larger : (last above k : ℕ) → last ≤ 8 * 2 ^ 36 → above < (2 ^ 36 + 255) * (k + 1) → last * (above / (k + 1) + 1) / 2 ^ 36 ≤ last + 2 ^ 11
 not_larger last above k l h =
     let a : above / (k + 1) * (k + 1) ≤ above = div-mul-le_self above (k + 1) in
-    let b : above / (k + 1) < 2 ^ 28 + 255 = lt_of_mul-lt-mul_right (k + 1) (omega (arith, a, h)) in
-    let c : last * (above / (k + 1) + 1) ≤ last * (2 ^ 28 + 2 ^ 8) = mul-le-mul_left last (omega (arith, b)) in
-    div-le_of_le-mul (2 ^ 28) (omega (arith, c, l))
+    let b : above / (k + 1) < 2 ^ 36 + 255 = lt_of_mul-lt-mul_right (k + 1) (omega (arith, a, h)) in
+    let c : last * (above / (k + 1) + 1) ≤ last * (2 ^ 36 + 2 ^ 8) = mul-le-mul_left last (omega (arith, b)) in
+    div-le_of_le-mul (2 ^ 36) (omega (arith, c, l))
 
 -- the inverse of a sum and a rest: g is what the bound leaves of 1, x is at most the rest over it, and den the sum and the rest times g, rounded up
-inverse_most : (sum last g x den inverse u o : ℕ) → 0 < g → 1024 ≤ u → o ≡ 2 ^ 28 * u → x * (g * u) ≤ (last * u + 1025) * o → sum * g + (last + 2) * 2 ^ 28 ≤ den * 2 ^ 28 → inverse * den ≤ g * 2 ^ 28
-    → inverse * (sum * u + x) ≤ 2 ^ 56 * u
+inverse_most : (sum last g x den inverse u o : ℕ) → 0 < g → 1024 ≤ u → o ≡ 2 ^ 36 * u → x * (g * u) ≤ (last * u + 1025) * o → sum * g + (last + 2) * 2 ^ 36 ≤ den * 2 ^ 36 → inverse * den ≤ g * 2 ^ 36
+    → inverse * (sum * u + x) ≤ 2 ^ 72 * u
 inverse_most sum last g x den inverse u o p l e h k i =
     let c : (last * u + 1025) * o ≤ (last + 2) * u * o = mul-le-mul_right o (omega (arith, l)) in
-    let d : (last + 2) * u * o ≡ (last + 2) * 2 ^ 28 * u * u = ap (λ y. (last + 2) * u * y) e ∙ omega arith in
-    let a : x * g ≤ (last + 2) * 2 ^ 28 * u = le_of_mul-le-mul_right {m = x * g} {n = (last + 2) * 2 ^ 28 * u} {k = u} (omega (arith, h, c, d)) (omega (arith, l)) in
-    let b : (sum * g + (last + 2) * 2 ^ 28) * u ≤ den * 2 ^ 28 * u = mul-le-mul_right u k in
-    let f : (sum * u + x) * g ≤ den * 2 ^ 28 * u = omega (arith, a, b) in
-    let m : inverse * ((sum * u + x) * g) ≤ inverse * (den * 2 ^ 28 * u) = mul-le-mul_left inverse f in
-    let n : inverse * den * (2 ^ 28 * u) ≤ g * 2 ^ 28 * (2 ^ 28 * u) = mul-le-mul_right (2 ^ 28 * u) i in
-    le_of_mul-le-mul_right {m = inverse * (sum * u + x)} {n = 2 ^ 56 * u} {k = g} (omega (arith, m, n)) p
+    let d : (last + 2) * u * o ≡ (last + 2) * 2 ^ 36 * u * u = ap (λ y. (last + 2) * u * y) e ∙ omega arith in
+    let a : x * g ≤ (last + 2) * 2 ^ 36 * u = le_of_mul-le-mul_right {m = x * g} {n = (last + 2) * 2 ^ 36 * u} {k = u} (omega (arith, h, c, d)) (omega (arith, l)) in
+    let b : (sum * g + (last + 2) * 2 ^ 36) * u ≤ den * 2 ^ 36 * u = mul-le-mul_right u k in
+    let f : (sum * u + x) * g ≤ den * 2 ^ 36 * u = omega (arith, a, b) in
+    let m : inverse * ((sum * u + x) * g) ≤ inverse * (den * 2 ^ 36 * u) = mul-le-mul_left inverse f in
+    let n : inverse * den * (2 ^ 36 * u) ≤ g * 2 ^ 36 * (2 ^ 36 * u) = mul-le-mul_right (2 ^ 36 * u) i in
+    le_of_mul-le-mul_right {m = inverse * (sum * u + x)} {n = 2 ^ 72 * u} {k = g} (omega (arith, m, n)) p
 
 -- the end
 pub reached_closed : (f : ℕ) (m d : Ends) (over : Rising) (k q sum last den inverse : ℕ) → pivot_at f m d ≤ k → k ≤ 63 → AreOver f m d over → IsReached f m d k sum last
-    → over.first + over.step * k ≤ q * (k + 1) → over.step ≤ q → q < 2 ^ 28 → sum * (2 ^ 28 - q) + (last + 2) * 2 ^ 28 ≤ den * 2 ^ 28 → inverse * den ≤ (2 ^ 28 - q) * 2 ^ 28
+    → over.first + over.step * k ≤ q * (k + 1) → over.step ≤ q → q < 2 ^ 36 → sum * (2 ^ 36 - q) + (last + 2) * 2 ^ 36 ≤ den * 2 ^ 36 → inverse * den ≤ (2 ^ 36 - q) * 2 ^ 36
     → IsOverSum f m d inverse
 reached_closed f m d over k q sum last den inverse c l h n r s b hd hi =
     let u = coarse_unit f in
-    let o : 2 ^ f ≡ 2 ^ 28 * u = places f h.places in
+    let o : 2 ^ f ≡ 2 ^ 36 * u = places f h.places in
     let ratios = ratios_most f m d over k q h r s in
     let far : far_ratio f d ≤ q * u = le_trans (far_most f m d over h) (mul-le-mul_right u s) in
-    let below : q * u < 2 ^ f = (let z : (q + 1) * u ≤ 2 ^ 28 * u = mul-le-mul_right u (omega (arith, b)) in omega (arith, z, o, pow_pos (f - 28))) in
-    let g : 2 ^ f - q * u ≡ (2 ^ 28 - q) * u = (let z : 2 ^ 28 * u ≡ (2 ^ 28 - q) * u + q * u = (let y : 2 ^ 28 ≡ (2 ^ 28 - q) + q = omega (arith, b) in ap (λ x. x * u) y ∙ omega arith) in omega (arith, z, o)) in
+    let below : q * u < 2 ^ f = (let z : (q + 1) * u ≤ 2 ^ 36 * u = mul-le-mul_right u (omega (arith, b)) in omega (arith, z, o, pow_pos (f - 36))) in
+    let g : 2 ^ f - q * u ≡ (2 ^ 36 - q) * u = (let z : 2 ^ 36 * u ≡ (2 ^ 36 - q) * u + q * u = (let y : 2 ^ 36 ≡ (2 ^ 36 - q) + q = omega (arith, b) in ap (λ x. x * u) y ∙ omega arith) in omega (arith, z, o)) in
     let top : last * u ≤ 8 * 2 ^ f = omega (arith, o, mul-le-mul_right u n.most) in
     let x = (last * u + 1025) * 2 ^ f / (2 ^ f - q * u) in
-    let e : x * ((2 ^ 28 - q) * u) ≤ (last * u + 1025) * 2 ^ f = subst (λ y. x * y ≤ (last * u + 1025) * 2 ^ f) g (div-mul-le_self ((last * u + 1025) * 2 ^ f) (2 ^ f - q * u)) in
+    let e : x * ((2 ^ 36 - q) * u) ≤ (last * u + 1025) * 2 ^ f = subst (λ y. x * y ≤ (last * u + 1025) * 2 ^ f) g (div-mul-le_self ((last * u + 1025) * 2 ^ f) (2 ^ f - q * u)) in
     let t : (all_sum f m d).hi ≤ sum * u + x = sum_bound f m d k (q * u) (last * u) c l ratios far below n.here (omega (arith, c, l)) (sum * u) n.before in
     record {
       narrow = narrow f m d k (q * u) (last * u) c l ratios far below n.here top n.tops;
-      most = le_trans (mul-le-mul_left inverse t) (inverse_most sum last (2 ^ 28 - q) x den inverse u (2 ^ f) (omega (arith, b)) (many f h.places) o e hd hi);
+      most = le_trans (mul-le-mul_left inverse t) (inverse_most sum last (2 ^ 36 - q) x den inverse u (2 ^ f) (omega (arith, b)) (many f h.places) o e hd hi);
     }

@@ -28,14 +28,14 @@ pub record IsFlat (f : ℕ) (m : Ends) (lead : Lead) (s : ℕ) (falling : Fallin
 
 -- the backorders by the chances
 pub record IsLed (f : ℕ) (m v : Ends) (lead : Lead) (s : ℕ) (falling : Falling) : Type 0 where
-  pub places : 38 ≤ f
+  pub places : 46 ≤ f
   pub weights : IsLead f m (excess_ends f m v) lead
   pub fallen : IsFallen f m v lead s falling
 
 -- sizes on which the step from the stock s rests
 pub record IsSmall (s : ℕ) (falling : Falling) : Type 0 where
-  pub weight : falling.weight ≤ 8 * 2 ^ 28
-  pub above : falling.above ≤ (8 + s) * 2 ^ 28
+  pub weight : falling.weight ≤ 8 * 2 ^ 36
+  pub above : falling.above ≤ (8 + s) * 2 ^ 36
 
 -- a walk at the stock s
 pub record IsWalk (f : ℕ) (m v : Ends) (s : ℕ) (lead : Lead) (falling : Falling) : Type 0 where

@@ -1,4 +1,4 @@
--- Bounds on weights that begin with the stock 0, in numbers of 28 places. No promise of the crate rests on these
+-- Bounds on weights that begin with the stock 0, in numbers of 36 places. No promise of the crate rests on these
 -- words.
 use Rattle.std.specs.Prelude.{ℕ, suc, false, ◌≡◌, ◌+◌, ◌*◌, ◌^◌, ◌<◌, ◌≤◌, List}
 use Rattle.fixed_interval.specs.Ends.{Ends}
@@ -19,11 +19,11 @@ all_sum f m d = ends_raised (ends_sum (all_weights f m d)) (remainder_at f m d (
 -- the weights aren't wide, and the number is at most 1 over the upper end of the sum of all weights
 pub record IsOverSum (f : ℕ) (m d : Ends) (inverse : ℕ) : Type 0 where
   pub narrow : is_wide f m d ≡ false
-  pub most : inverse * (all_sum f m d).hi ≤ 2 ^ 56 * coarse_unit f
+  pub most : inverse * (all_sum f m d).hi ≤ 2 ^ 72 * coarse_unit f
 
 -- a ratio of weights is at most (first + step (x - 1)) / x at each index
 pub record AreOver (f : ℕ) (m d : Ends) (parts : Rising) : Type 0 where
-  pub places : 38 ≤ f
+  pub places : 46 ≤ f
   pub positive : 0 < m.lo
   pub mean : m.lo ≤ m.hi
   pub excess : d.lo ≤ d.hi
@@ -40,14 +40,14 @@ pub record IsInverse (f : ℕ) (d : Ends) (low high : ℕ) : Type 0 where
   pub under : low * coarse_unit f * (1 * 2 ^ f + d.hi) ≤ 2 ^ f * 2 ^ f
   pub over : 2 ^ f * 2 ^ f ≤ high * coarse_unit f * (1 * 2 ^ f + d.lo)
   pub ordered : low ≤ high
-  pub most : high ≤ 2 ^ 28
-  pub least : 2 ^ 28 ≤ 8 * low
+  pub most : high ≤ 2 ^ 36
+  pub least : 2 ^ 36 ≤ 8 * low
 
 -- the weights below k and the one at k, by their upper ends
 pub record IsReached (f : ℕ) (m d : Ends) (k sum last : ℕ) : Type 0 where
   pub before : (ends_sum (listed (weight_ends f m d) k)).hi ≤ sum * coarse_unit f
   pub here : (weight_ends f m d k).hi ≤ last * coarse_unit f
-  pub most : last ≤ 8 * 2 ^ 28
+  pub most : last ≤ 8 * 2 ^ 36
   pub tops : (x : ℕ) → x < k → (weight_ends f m d x).hi ≤ 8 * 2 ^ f
 
 -- a pivot, and numbers between which the weight at 0 is
@@ -67,7 +67,7 @@ pub record IsLead (f : ℕ) (m d : Ends) (lead : Lead) : Type 0 where
 
 -- sizes of these numbers
 pub record IsSmallLead (lead : Lead) : Type 0 where
-  pub start : lead.start ≤ 8 * 2 ^ 28
-  pub inverse : lead.inverse ≤ 2 ^ 28
-  pub first : lead.under.first ≤ 8 * 2 ^ 28
-  pub step : lead.under.step ≤ 2 ^ 28
+  pub start : lead.start ≤ 8 * 2 ^ 36
+  pub inverse : lead.inverse ≤ 2 ^ 36
+  pub first : lead.under.first ≤ 8 * 2 ^ 36
+  pub step : lead.under.step ≤ 2 ^ 36

@@ -11,7 +11,7 @@ use crate::scale::{MOST, product};
 use quotients::few_quotient;
 
 /// A lower bound on the backorders at a stock, and the numbers that bound their fall to the next one. `low` and `tail`
-/// have `F` places, `weight` and `above` 28.
+/// have `F` places, `weight` and `above` 36.
 #[derive(Clone, Copy, Drop)]
 pub(crate) struct Falling {
     pub(crate) low: u64,
@@ -47,14 +47,14 @@ impl Falling {
         requires small { IsSmall s self }
         requires lead { IsSmallLead lead }
         ensures small { IsSmall (s + 1) result }
-        ensures fallen { (m v : Ends) → 38 ≤ F → IsLead F m (excess_ends F m v) lead → IsFallen F m v lead s self
+        ensures fallen { (m v : Ends) → 46 ≤ F → IsLead F m (excess_ends F m v) lead → IsFallen F m v lead s self
             → IsFallen F m v lead (s + 1) result }
         ensures flat { (m : Ends) → IsFlat F m lead s self → IsFlat F m lead (s + 1) result }
     {
         if self.low == 0 {
             return self;
         }
-        let chance = (self.weight * lead.inverse) >> (56 - F);
+        let chance = (u128::from(self.weight) * u128::from(lead.inverse) >> (72 - F)) as u64;
         let tail = self.tail.saturating_sub(chance);
         let ratio = few_quotient(self.above, s + 1);
         Falling {

@@ -7,7 +7,7 @@ ghost use Rattle.backorder_bounds.specs.Lead.{AreOver, AreUnder, IsInverse, IsLe
 ghost use Rattle.series_bounds.specs.Profile.{pivot_at};
 ghost use Rattle.moment_table.specs.Profile.{excess_ends};
 
-use crate::scale::{Coarse, MOST, UNIT, product};
+use crate::scale::{Coarse, MOST, UNIT, product, share};
 use crate::sums::{Rising, Start, inverse_of_sum};
 use fixed_interval::Iv;
 use series_bounds::shares::quotient;
@@ -32,17 +32,17 @@ pub(crate) struct Inverse {
 #[inline(always)]
 fn inverse_of_excess(mean: Coarse, variance: Coarse) -> Option<Inverse>
     requires positive { 0 < mean.lo }
-    requires most { mean.hi ≤ 8 * 2 ^ 28 }
+    requires most { mean.hi ≤ 8 * 2 ^ 36 }
     requires ordered { mean.lo ≤ mean.hi }
-    ensures inverse { (f : ℕ) (m v : Ends) → 38 ≤ f → 0 < m.lo → m.lo ≤ m.hi → v.lo ≤ v.hi → IsCoarse f m mean
+    ensures inverse { (f : ℕ) (m v : Ends) → 46 ≤ f → 0 < m.lo → m.lo ≤ m.hi → v.lo ≤ v.hi → IsCoarse f m mean
         → IsCoarse f v variance → IfSome result (λ found. IsInverse f (excess_ends f m v) found.low found.high) }
     ensures least { IfSome result (λ found. found.low ≤ found.high) }
-    ensures most { IfSome result (λ found. found.high ≤ 2 ^ 28) }
+    ensures most { IfSome result (λ found. found.high ≤ 2 ^ 36) }
 {
     let least = variance.lo.max(mean.lo);
     let most = variance.hi.max(mean.hi);
-    let low = (mean.lo * UNIT / most).saturating_sub(1);
-    let high = (mean.hi * UNIT / least + 2).min(UNIT);
+    let low = share(mean.lo, most).saturating_sub(1);
+    let high = (share(mean.hi, least) + 2).min(UNIT);
     if low <= UNIT / 8 || high < low {
         return None;
     }
@@ -63,8 +63,8 @@ fn start_of<const F: u32>(
     requires under { AreUnder F mean (excess_ends F mean variance) under }
     ensures start { IfSome result (IsStart F mean.entry (excess_ends F mean.entry variance.entry)) }
     ensures few { IfSome result (λ start. start.pivot ≤ 8) }
-    ensures low { IfSome result (λ start. start.low ≤ 8 * 2 ^ 28) }
-    ensures high { IfSome result (λ start. start.high ≤ 8 * 2 ^ 28) }
+    ensures low { IfSome result (λ start. start.low ≤ 8 * 2 ^ 36) }
+    ensures high { IfSome result (λ start. start.high ≤ 8 * 2 ^ 36) }
 {
     if over.first < UNIT {
         return Some(Start {
@@ -83,8 +83,8 @@ fn start_of<const F: u32>(
 
 /// Whether the parts of ratios are at most 8 and 1.
 fn is_small(parts: Rising) -> bool
-    ensures first { result ≡ true → parts.first ≤ 8 * 2 ^ 28 }
-    ensures step { result ≡ true → parts.step ≤ 2 ^ 28 }
+    ensures first { result ≡ true → parts.first ≤ 8 * 2 ^ 36 }
+    ensures step { result ≡ true → parts.step ≤ 2 ^ 36 }
 {
     parts.first <= MOST && parts.step <= UNIT
 }
@@ -93,10 +93,10 @@ fn is_small(parts: Rising) -> bool
 fn number_at(parts: Rising, x: u8) -> u64
     requires few { x ≤ 8 }
     requires positive { 0 < x }
-    requires first { parts.first ≤ 8 * 2 ^ 28 }
-    requires step { parts.step ≤ 2 ^ 28 }
+    requires first { parts.first ≤ 8 * 2 ^ 36 }
+    requires step { parts.step ≤ 2 ^ 36 }
     ensures number { result ≡ parts.first + parts.step * (x - 1) }
-    ensures most { result ≤ 16 * 2 ^ 28 }
+    ensures most { result ≤ 16 * 2 ^ 36 }
 {
     parts.first + parts.step * u64::from(x - 1)
 }
@@ -104,11 +104,11 @@ fn number_at(parts: Rising, x: u8) -> u64
 /// `x` over a number, rounded down.
 fn squares_over(x: u8, den: u64) -> u64
     requires few { x ≤ 8 }
-    requires least { 2 ^ 28 ≤ den * 2 }
-    ensures ratio { result ≡ x * 2 ^ 56 / den }
-    ensures most { result ≤ 16 * 2 ^ 28 }
+    requires least { 2 ^ 36 ≤ den * 2 }
+    ensures ratio { result ≡ x * 2 ^ 72 / den }
+    ensures most { result ≤ 16 * 2 ^ 36 }
 {
-    u64::from(x) * (UNIT * UNIT) / den
+    ((u128::from(x) << 72) / u128::from(den)) as u64
 }
 
 /// The weight at the stock 0, from the pivot down. None if the weight may pass 8 or the ratios are too small.
@@ -117,8 +117,8 @@ fn walked_down(over: Rising, under: Rising, pivot: u8) -> Option<Start>
     ensures start { (f : ℕ) (m d : Ends) → pivot_at f m d ≡ pivot → AreOver f m d over → AreUnder f m d under
         → IfSome result (IsStart f m d) }
     ensures few { IfSome result (λ start. start.pivot ≤ 8) }
-    ensures low { IfSome result (λ start. start.low ≤ 8 * 2 ^ 28) }
-    ensures high { IfSome result (λ start. start.high ≤ 8 * 2 ^ 28) }
+    ensures low { IfSome result (λ start. start.low ≤ 8 * 2 ^ 36) }
+    ensures high { IfSome result (λ start. start.high ≤ 8 * 2 ^ 36) }
 {
     if !is_small(over) {
         return None;
@@ -150,11 +150,11 @@ fn walked_down(over: Rising, under: Rising, pivot: u8) -> Option<Start>
 pub(crate) fn lead_of<const F: u32>(mean: Iv<F>, variance: Iv<F>) -> Option<Lead>
     requires mean_top { IsWithinLimit F mean }
     requires variance_top { IsWithinLimit F variance }
-    ensures places { IfSome result (λ _. 38 ≤ F) }
+    ensures places { IfSome result (λ _. 46 ≤ F) }
     ensures lead { IfSome result (IsLead F mean.entry (excess_ends F mean.entry variance.entry)) }
     ensures small { IfSome result IsSmallLead }
 {
-    if F < 38 {
+    if F < 46 {
         return None;
     }
     let near = Coarse::of(mean);

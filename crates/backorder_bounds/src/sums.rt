@@ -6,7 +6,7 @@ ghost use Rattle.series_bounds.specs.Profile.{pivot_at};
 ghost use Rattle.backorder_bounds.specs.declared.sums.Rising.{Rising};
 ghost use Rattle.backorder_bounds.specs.Lead.{AreOver, IsOverSum, IsReached, IsStart};
 
-use crate::scale::{MOST, UNIT, product};
+use crate::scale::{MOST, UNIT, product, share};
 use quotients::few_quotient;
 
 /// A number that rises by the same step from index to index.
@@ -38,12 +38,12 @@ impl Reached {
     #[inline(always)]
     fn next(self, k: u8, step: u64) -> Reached
         requires index { k ≤ 20 }
-        requires sum { self.sum ≤ k * 2 ^ 32 }
-        requires last { self.last ≤ 8 * 2 ^ 28 }
-        requires above { self.above ≤ (8 + k) * 2 ^ 28 }
-        requires step { step ≤ 2 ^ 28 }
+        requires sum { self.sum ≤ k * 2 ^ 40 }
+        requires last { self.last ≤ 8 * 2 ^ 36 }
+        requires above { self.above ≤ (8 + k) * 2 ^ 36 }
+        requires step { step ≤ 2 ^ 36 }
         ensures sum { result.sum ≡ self.sum + self.last }
-        ensures last { result.last ≡ self.last * (self.above / (k + 1) + 1) / 2 ^ 28 + 1 }
+        ensures last { result.last ≡ self.last * (self.above / (k + 1) + 1) / 2 ^ 36 + 1 }
         ensures above { result.above ≡ self.above + step }
     {
         let ratio = few_quotient(self.above, k + 1) + 1;
@@ -59,20 +59,20 @@ impl Reached {
     #[inline(always)]
     fn closed(self, k: u8, step: u64) -> Option<u64>
         requires index { k ≤ 12 }
-        requires sum { self.sum ≤ k * 2 ^ 32 }
-        requires last { self.last ≤ 8 * 2 ^ 28 }
-        requires above { self.above ≤ (8 + k) * 2 ^ 28 }
+        requires sum { self.sum ≤ k * 2 ^ 40 }
+        requires last { self.last ≤ 8 * 2 ^ 36 }
+        requires above { self.above ≤ (8 + k) * 2 ^ 36 }
         ensures inverse { (f : ℕ) (m d : Ends) (over : Rising) → over.step ≡ step
             → self.above ≡ over.first + over.step * k → pivot_at f m d ≤ k → AreOver f m d over
             → IsReached f m d k self.sum self.last → IfSome result (IsOverSum f m d) }
-        ensures most { IfSome result (λ inverse. inverse ≤ 2 ^ 28) }
+        ensures most { IfSome result (λ inverse. inverse ≤ 2 ^ 36) }
     {
         let bound = (few_quotient(self.above, k + 1) + 1).max(step);
         if bound >= UNIT {
             return None;
         }
         let gap = UNIT - bound;
-        Some((gap * UNIT / (product(self.sum, gap) + self.last + 3)).min(UNIT))
+        Some(share(gap, product(self.sum, gap) + self.last + 3))
     }
 }
 
@@ -83,9 +83,9 @@ const LAST: u8 = 12;
 /// step is small.
 #[inline(always)]
 fn few_of(step: u64) -> u64
-    requires { step < 2 ^ 28 }
+    requires { step < 2 ^ 36 }
 {
-    (UNIT / 256) >> (step / 16_777_216)
+    (UNIT / 16_384) >> (step / 4_294_967_296)
 }
 
 /// The weights up to the pivot, after which each exceeds the one before by rounding at most. None if a weight may pass
@@ -93,13 +93,13 @@ fn few_of(step: u64) -> u64
 #[inline(always)]
 fn risen(over: Rising, start: Start) -> Option<Reached>
     requires pivot { start.pivot ≤ 8 }
-    requires high { start.high ≤ 8 * 2 ^ 28 }
-    requires first { over.first ≤ 8 * 2 ^ 28 }
-    requires step { over.step ≤ 2 ^ 28 }
+    requires high { start.high ≤ 8 * 2 ^ 36 }
+    requires first { over.first ≤ 8 * 2 ^ 36 }
+    requires step { over.step ≤ 2 ^ 36 }
     ensures above { IfSome result (λ reached. reached.above ≡ over.first + over.step * start.pivot) }
-    ensures ratio { IfSome result (λ reached. reached.above < (2 ^ 28 + 255) * (start.pivot + 1)) }
-    ensures last { IfSome result (λ reached. reached.last + 2 ^ 16 ≤ 8 * 2 ^ 28) }
-    ensures sum { IfSome result (λ reached. reached.sum ≤ start.pivot * 2 ^ 32) }
+    ensures ratio { IfSome result (λ reached. reached.above < (2 ^ 36 + 255) * (start.pivot + 1)) }
+    ensures last { IfSome result (λ reached. reached.last + 2 ^ 16 ≤ 8 * 2 ^ 36) }
+    ensures sum { IfSome result (λ reached. reached.sum ≤ start.pivot * 2 ^ 40) }
     ensures reached { (f : ℕ) (m d : Ends) → AreOver f m d over → IsStart f m d start
         → IfSome result (λ reached. IsReached f m d start.pivot reached.sum reached.last) }
 {
@@ -127,10 +127,10 @@ fn risen(over: Rising, start: Start) -> Option<Reached>
 #[inline(always)]
 pub(crate) fn inverse_of_sum(over: Rising, start: Start) -> Option<u64>
     requires pivot { start.pivot ≤ 8 }
-    requires high { start.high ≤ 8 * 2 ^ 28 }
+    requires high { start.high ≤ 8 * 2 ^ 36 }
     ensures inverse { (f : ℕ) (m d : Ends) → AreOver f m d over → IsStart f m d start
         → IfSome result (IsOverSum f m d) }
-    ensures most { IfSome result (λ inverse. inverse ≤ 2 ^ 28) }
+    ensures most { IfSome result (λ inverse. inverse ≤ 2 ^ 36) }
 {
     if over.first > MOST || over.step >= UNIT {
         return None;

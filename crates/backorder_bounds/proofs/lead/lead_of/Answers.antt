@@ -8,10 +8,10 @@ start_of-requires g c =
     let f = g.row.F in
     let m = c.args.mean in
     let v = c.args.variance in
-    let n : 38 ≤ f = omega (arith, c.if-this-lt38.false) in
+    let n : 46 ≤ f = omega (arith, c.if-this-lt46.false) in
     let p : 0 < m.lo = positive_mean f m c.of-near.result c.of-near.ensures.coarse (omega (arith, c.if-near-eq0.false)) in
     let i = c.in_ok-inverse.inverse in
-    let both = parts_are f m v c.of-near.result i.low i.high (c.product.result + 1) (2 ^ 28 - i.low + 8 * (i.high - i.low)) c.product-2.result c.saturating_sub.result n p
+    let both = parts_are f m v c.of-near.result i.low i.high (c.product.result + 1) (2 ^ 36 - i.low + 8 * (i.high - i.low)) c.product-2.result c.saturating_sub.result n p
     c.of-near.ensures.valid.ordered c.of.ensures.valid.ordered c.of-near.ensures.coarse
     (c.in_ok-inverse.ensures.inverse f m v n p c.of-near.ensures.valid.ordered c.of.ensures.valid.ordered c.of-near.ensures.coarse c.of.ensures.coarse)
     (omega (arith, c.product.ensures)) refl c.product-2.ensures c.saturating_sub.ensures in
@@ -22,10 +22,10 @@ returns-clause-lead g c =
     let f = g.row.F in
     let m = c.args.mean in
     let v = c.args.variance in
-    let n : 38 ≤ f = omega (arith, c.if-this-lt38.false) in
+    let n : 46 ≤ f = omega (arith, c.if-this-lt46.false) in
     let p : 0 < m.lo = positive_mean f m c.of-near.result c.of-near.ensures.coarse (omega (arith, c.if-near-eq0.false)) in
     let i = c.in_ok-inverse.inverse in
-    let both = parts_are f m v c.of-near.result i.low i.high (c.product.result + 1) (2 ^ 28 - i.low + 8 * (i.high - i.low)) c.product-2.result c.saturating_sub.result n p
+    let both = parts_are f m v c.of-near.result i.low i.high (c.product.result + 1) (2 ^ 36 - i.low + 8 * (i.high - i.low)) c.product-2.result c.saturating_sub.result n p
     c.of-near.ensures.valid.ordered c.of.ensures.valid.ordered c.of-near.ensures.coarse
     (c.in_ok-inverse.ensures.inverse f m v n p c.of-near.ensures.valid.ordered c.of.ensures.valid.ordered c.of-near.ensures.coarse c.of.ensures.coarse)
     (omega (arith, c.product.ensures)) refl c.product-2.ensures c.saturating_sub.ensures in

@@ -13,12 +13,12 @@ loop-k-init c = record {
 
 pub product-low-requires : goal.product-low-requires
 product-low-requires c =
-    let a : c.loop-k.low * c.squares_over.result ≤ 8 * 2 ^ 28 * (16 * 2 ^ 28) = mul-le-mul c.loop-k.invariant.low_room c.squares_over.ensures.most in
+    let a : c.loop-k.low * c.squares_over.result ≤ 8 * 2 ^ 36 * (16 * 2 ^ 36) = mul-le-mul c.loop-k.invariant.low_room c.squares_over.ensures.most in
     omega (arith, a)
 
 pub product-high-requires : goal.product-high-requires
 product-high-requires c =
-    let a : c.loop-k.high * (c.squares_over-in-loop-k.result + 1) ≤ 8 * 2 ^ 28 * (17 * 2 ^ 28) = mul-le-mul {n₁ = c.loop-k.high} {m₁ = c.squares_over-in-loop-k.result + 1} {n₂ = 8 * 2 ^ 28} {m₂ = 17 * 2 ^ 28} c.loop-k.invariant.high_room (omega (arith, c.squares_over-in-loop-k.ensures.most)) in
+    let a : c.loop-k.high * (c.squares_over-in-loop-k.result + 1) ≤ 8 * 2 ^ 36 * (17 * 2 ^ 36) = mul-le-mul {n₁ = c.loop-k.high} {m₁ = c.squares_over-in-loop-k.result + 1} {n₂ = 8 * 2 ^ 36} {m₂ = 17 * 2 ^ 36} c.loop-k.invariant.high_room (omega (arith, c.squares_over-in-loop-k.ensures.most)) in
     omega (arith, a)
 
 pub loop-k-preserved : goal.loop-k-preserved

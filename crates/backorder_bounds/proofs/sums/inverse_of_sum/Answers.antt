@@ -7,8 +7,8 @@ loop-k-preserved c =
     let k = c.loop-k.k in
     let now = c.loop-k.reached in
     let few : k < 12 = omega (arith, c.loop-k-test.true) in
-    let a : now.last * (now.above / (k + 1) + 1) / 2 ^ 28 ≤ now.last + 2 ^ 11 = not_larger now.last now.above k (omega (arith, c.loop-k.invariant.last, few)) c.loop-k.invariant.ratio in
-    let last : c.next-reached.result.last + 2 ^ 16 ≤ 8 * 2 ^ 28 + (k + 1) * 2 ^ 12 = omega (arith, a, c.next-reached.ensures.last, c.loop-k.invariant.last) in
+    let a : now.last * (now.above / (k + 1) + 1) / 2 ^ 36 ≤ now.last + 2 ^ 11 = not_larger now.last now.above k (omega (arith, c.loop-k.invariant.last, few)) c.loop-k.invariant.ratio in
+    let last : c.next-reached.result.last + 2 ^ 16 ≤ 8 * 2 ^ 36 + (k + 1) * 2 ^ 12 = omega (arith, a, c.next-reached.ensures.last, c.loop-k.invariant.last) in
     record {
       above = omega (arith, c.next-reached.ensures.above, c.loop-k.invariant.above);
       ratio = omega (arith, c.next-reached.ensures.above, c.loop-k.invariant.ratio, c.if-over-ge-UNIT.false);

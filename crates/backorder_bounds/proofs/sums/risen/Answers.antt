@@ -13,7 +13,7 @@ loop-k-init c = record {
 
 pub loop-k-preserved : goal.loop-k-preserved
 loop-k-preserved c =
-    let most : c.next-reached.result.last ≤ 8 * 2 ^ 28 = omega (arith, c.if-reached-gt-MOST.false) in
+    let most : c.next-reached.result.last ≤ 8 * 2 ^ 36 = omega (arith, c.if-reached-gt-MOST.false) in
     record {
       above = omega (arith, c.next-reached.ensures.above, c.loop-k.invariant.above);
       small = omega (arith, c.next-reached.ensures.above, c.loop-k.invariant.small, c.requires.step);

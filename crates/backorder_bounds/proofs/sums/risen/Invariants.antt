@@ -6,8 +6,8 @@ use Rattle.backorder_bounds.proofs.sums.risen.Given as goal
 abbrev pub invariant-loop-k : goal.invariant-loop-k
 invariant-loop-k l = record {
   above : l.reached.above ≡ l.over.first + l.over.step * l.k;
-  small : l.reached.above ≤ (8 + l.k) * 2 ^ 28;
-  most : l.reached.last ≤ 8 * 2 ^ 28;
-  sum : l.reached.sum ≤ l.k * 2 ^ 32;
+  small : l.reached.above ≤ (8 + l.k) * 2 ^ 36;
+  most : l.reached.last ≤ 8 * 2 ^ 36;
+  sum : l.reached.sum ≤ l.k * 2 ^ 40;
   reached : (f : ℕ) (m d : Ends) → AreOver f m d l.over → IsStart f m d l.start → IsReached f m d l.k l.reached.sum l.reached.last;
 }

@@ -12,10 +12,10 @@ overflow_cast-result-3 g c = record { fits = omega (arith, c.hi.ensures.end, c.r
 
 pub overflow_add-result : goal.overflow_add-result
 overflow_add-result g c =
-    let a : c.hi.result / 2 ^ (g.row.F - 28) ≤ 2 ^ 36 = div-le_of_le-mul (2 ^ (g.row.F - 28)) (omega (arith, c.hi.ensures.end, c.requires.limit, places g.row.F c.requires.places)) in
+    let a : c.hi.result / 2 ^ (g.row.F - 36) ≤ 2 ^ 44 = div-le_of_le-mul (2 ^ (g.row.F - 36)) (omega (arith, c.hi.ensures.end, c.requires.limit, places g.row.F c.requires.places)) in
     record { fits = omega (arith, a) }
 
 pub returns-clause-most : goal.returns-clause-most
 returns-clause-most g c =
-    let a : c.hi.result / 2 ^ (g.row.F - 28) ≤ 2 ^ 36 = div-le_of_le-mul (2 ^ (g.row.F - 28)) (omega (arith, c.hi.ensures.end, c.requires.limit, places g.row.F c.requires.places)) in
+    let a : c.hi.result / 2 ^ (g.row.F - 36) ≤ 2 ^ 44 = div-le_of_le-mul (2 ^ (g.row.F - 36)) (omega (arith, c.hi.ensures.end, c.requires.limit, places g.row.F c.requires.places)) in
     omega (arith, a)
