@@ -15,12 +15,15 @@ use Rattle.family_points.proofs.Public.{flat_stock_before, flat_stock_behind}
 pub curve_grows : (ps qs c e : List Point) → IsCurve ps c → IsCurve (c ++ qs) e → IsCurve (ps ++ qs) e
 curve_grows ps qs c e a h = stand_for (ps ++ qs) (c ++ qs) e (stand_for_both ps qs c qs (curve_stands ps c a) (stand_self qs)) h
 
--- points in either order have one curve
-pub curve_turned : (ps qs c : List Point) → IsCurve (ps ++ qs) c → IsCurve (qs ++ ps) c
-curve_turned ps qs c h = of_members (ps ++ qs) (qs ++ ps) c (λ v. (swapped ps qs v, swapped qs ps v)) h
+-- points in either order have one curve, beside others too
+pub curve_swapped : (ps qs rs c : List Point) → IsCurve ((ps ++ qs) ++ rs) c → IsCurve ((qs ++ ps) ++ rs) c
+curve_swapped ps qs rs c h = of_members ((ps ++ qs) ++ rs) ((qs ++ ps) ++ rs) c (λ v. (swapped ps qs v, swapped qs ps v)) h
   where
-    swapped : (xs ys : List Point) (v : Point) → Among v (xs ++ ys) → Among v (ys ++ xs)
-    swapped xs ys v m = elim (among_either v xs ys m) [ inl k ↦ among_right v ys xs k | inr k ↦ among_left v ys xs k ]
+    swapped : (xs ys : List Point) (v : Point) → Among v ((xs ++ ys) ++ rs) → Among v ((ys ++ xs) ++ rs)
+    swapped xs ys v m = elim (among_either v (xs ++ ys) rs m) [
+      | inl k ↦ among_left v (ys ++ xs) rs (elim (among_either v xs ys k) [ inl i ↦ among_right v ys xs i | inr i ↦ among_left v ys xs i ])
+      | inr k ↦ among_right v (ys ++ xs) rs k
+    ]
 
 -- the curve of a curve and of some points is the curve of all points that they stand for, put before those so far
 pub curve_grows_before : (so ps qs c e : List Point) → IsCurve (so ++ ps) c → IsCurve (c ++ qs) e → IsCurve (so ++ (qs ++ ps)) e

@@ -1,3 +1,4 @@
 pub mod Work
 pub mod LowCurves
 pub mod Under
+pub mod Numbered

@@ -1,6 +1,6 @@
 //! The curve of a family: what each choice of stocks at the depot adds to the curve so far.
 
-ghost use Rattle.std.specs.Prelude.{◌≡◌, ◌+◌, ◌-◌, ◌*◌, ◌<◌, ◌≤◌, ◌++◌, ◌∷◌, [], IfOk, drop, get_or, length, sum_by};
+ghost use Rattle.std.specs.Prelude.{◌≡◌, ◌+◌, ◌-◌, ◌*◌, ◌<◌, ◌≤◌, ◌++◌, ◌∷◌, [], IfOk, List, drop, get_or, length, sum_by};
 ghost use Rattle.hull.specs.declared.point.Point.{Point};
 ghost use Rattle.hull.specs.Curves.{Among, InRange, IsCurve, StandFor};
 ghost use Rattle.family_points.specs.Counts.{most_vertices};
@@ -18,6 +18,7 @@ ghost use Rattle.family_points.specs.Inputs.{
 };
 ghost use Rattle.family_rows.specs.Sources.{AreSources};
 ghost use Rattle.family_bases.specs.Joining.{HaveWidthOf, IsDepotPoint, vertices_of};
+ghost use Rattle.family_curve.specs.Numbered.{numbered_points};
 ghost use Rattle.family_curve.specs.Work.{HaveChains};
 ghost use Rattle.family_rows.specs.Tabled.{AreTables};
 ghost use Rattle.sum_walk.specs.Sums.{sums_of_each};
@@ -30,7 +31,7 @@ use family_points::family::{Family, joined};
 use family_points::order::Base;
 use family_rows::base::BaseSpot;
 use family_rows::base_at::BaseAt;
-use family_rows::depot::{DepotTables, ShopParts, depot_tables, likely_line};
+use family_rows::depot::{DepotTables, ShopParts, depot_tables, likely_line, likely_shops};
 use family_rows::sources::Sources;
 use hull::{Chain, Curve, Point, Score};
 use series_bounds::short::Iv64;
@@ -298,8 +299,42 @@ fn with_shops<'b, S: Score>(
     with_lines(alloc, so_far, work, sources, score, &tables, shops)
 }
 
-/// The curve of all vectors of the family within its bounds. The most shop units at the depot come first, because their
-/// points pass many of the others; the other choices follow in dictionary order.
+/// The curve of the points so far and of all vectors whose shop units' stocks at the depot have the numbers from `from`
+/// up to, not including, `to`.
+fn with_numbers<'b, S: Score>(
+    alloc: Global,
+    so_far: Curve,
+    work: &mut Work<'b>,
+    sources: &'b Sources<'_>,
+    score: &S,
+    parts: &mut ShopParts,
+    from: u64,
+    to: u64,
+) -> Result<Curve, NoMemory>
+    requires sources { AreSources sources.now }
+    requires order { from ≤ to }
+    requires within { to ≤ length (shop_vectors sources.now.family.now 0) }
+    requires room { let x = sources.now.family.now in
+        length so_far + (to - from) * (length (line_stocks x 0) * vertex_count x) ≤ most_vertices }
+    requires widths { HaveWidthOf sources.now.family.now so_far }
+    requires work { HaveChains sources.now.bases.items work.old }
+    ensures curve { (ps : List Point) → IsCurve ps so_far → IfOk result (let x = sources.now.family.now in
+        IsCurve (ps ++ numbered_points S.ends x from (to - from))) }
+    ensures few { IfOk result (λ curve. let x = sources.now.family.now in
+        length curve ≤ length so_far + (to - from) * (length (line_stocks x 0) * vertex_count x)) }
+    ensures widths { IfOk result (HaveWidthOf sources.now.family.now) }
+    ensures work { IfOk result (λ _. HaveChains sources.now.bases.items work.new) }
+{
+    let mut curve = so_far;
+    for n in from..to {
+        let before = Some(curve);
+        curve = with_shops(alloc, before, work, sources, score, parts, n)?;
+    }
+    Ok(curve)
+}
+
+/// The curve of all vectors of the family within its bounds. Likely stocks of the shop units at the depot come first,
+/// because their points pass many of the others; these follow in dictionary order.
 fn whole_curve<'b, S: Score>(
     alloc: Global,
     work: &mut Work<'b>,
@@ -314,12 +349,12 @@ fn whole_curve<'b, S: Score>(
     let family = sources.family;
     family.invariant();
     let count = family.shop_count(SiteId(0));
+    let likely = likely_shops(sources).min(count - 1);
     let mut parts = ShopParts::new(alloc);
-    let mut curve = with_shops(alloc, None, work, sources, score, &mut parts, count - 1)?;
-    for n in 0..count - 1 {
-        let so_far = Some(curve);
-        curve = with_shops(alloc, so_far, work, sources, score, &mut parts, n)?;
-    }
+    let parts = &mut parts;
+    let first = with_shops(alloc, None, work, sources, score, parts, likely)?;
+    let lower = with_numbers(alloc, first, work, sources, score, parts, 0, likely)?;
+    let curve = with_numbers(alloc, lower, work, sources, score, parts, likely + 1, count)?;
     Ok(curve)
 }
 

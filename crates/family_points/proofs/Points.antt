@@ -2,7 +2,7 @@
 use Rattle.std.proofs.Common.{◌≡◌, ℕ, zero, suc, ◌+◌, ◌-◌, ◌*◌, ◌^◌, ◌<◌, ◌≤◌, inl, inr, List, [], ◌∷◌, ◌++◌, length, get_or, map, flat_map, take, drop, not, refl, sym, ap, ap₂, ◌∙◌, subst, arith, add-one, length-append, sum_by, ◌⊎◌}
 use Rattle.std.specs.List.{range_with_len, AllZip, AllByRecursion}
 use Rattle.std.proofs.Math.Nat.{mul_assoc, mul_comm}
-use Rattle.std.proofs.lemmas.List.{length-map, append-nil, drop_all, drop_more}
+use Rattle.std.proofs.lemmas.List.{length-map, append-nil}
 use Rattle.std.proofs.lemmas.List.Concat.{flat_map-append}
 use Rattle.std.proofs.lemmas.List.FromFn.{length-range_with_len}
 use Rattle.std.proofs.lemmas.List.Sums.{fold-append, sum_by-cons, sum_by-append}
@@ -205,13 +205,6 @@ flat_one {X} {Y} f xs x = flat_map-append f xs (x ∷ []) ∙ ap (λ (r : List Y
 pub flat_next : {Y : Type 0} (f : List ℕ → List Y) (vs : List (List ℕ)) (n : ℕ) (d : List ℕ) → n < length vs → d ≡ get_or vs n []
     → flat_map f (take (n + 1) vs) ≡ flat_map f (take n vs) ++ f d
 flat_next f vs n d h e = ap (flat_map f) (take_next vs n h) ∙ flat_one f (take n vs) (get_or vs n []) ∙ ap (λ v. flat_map f (take n vs) ++ f v) (sym e)
-
--- the points of the last vector alone
-pub flat_last : (f : List ℕ → List Point) (vs : List (List ℕ)) (d : List ℕ) → 0 < length vs → d ≡ get_or vs (length vs - 1) [] → flat_map f (drop (length vs - 1) vs) ≡ f d
-flat_last f vs d h e =
-    let all : length vs ≤ length vs - 1 + 1 = omega arith in
-    ap (flat_map f) (drop_more vs (length vs - 1) [] (omega (arith, h)) ∙ ap (λ (ws : List (List ℕ)). get_or vs (length vs - 1) [] ∷ ws) (drop_all (length vs - 1 + 1) vs all))
-    ∙ append-nil (f (get_or vs (length vs - 1) [])) ∙ ap f (sym e)
 
 -- the points of n + 1 numbers up to b are those of the first, and those of the n after it
 pub flat_stock_before : (f : ℕ → List Point) (b n s : ℕ) → n ≤ b → s ≡ b - n → flat_map f (range_with_len (b + 1 - (n + 1)) (n + 1)) ≡ f s ++ flat_map f (range_with_len (b + 1 - n) n)

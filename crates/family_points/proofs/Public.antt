@@ -9,7 +9,7 @@ pub use Rattle.family_points.proofs.Leasts.{at_least_less, at_least_sums, decide
 pub use Rattle.family_points.proofs.Local.{changed, line_owner, local}
 pub use Rattle.family_points.proofs.Numbers.{product_some, vectors_count, width_at, widths_long}
 pub use Rattle.family_points.proofs.Ordered.{choice_at, choice_range, earlier_cheaper, earlier_wide, order_count, ordered_stands, points_permuted, points_to, stands_on}
-pub use Rattle.family_points.proofs.Points.{all_depots, base_small, begins_at_none, box_begins, depot_points_small, each_between, first_vector, flat_last, flat_stock_before, flat_stock_behind, high_begins, joined_at, limits_hold, low_begins, low_some, mapped_among, nothing_above, of_each, over_count, over_count_more, over_more, over_small, room_at, small_range, some_vectors, stocks_between, stocks_count, turned_curve, whole_room}
+pub use Rattle.family_points.proofs.Points.{all_depots, base_small, begins_at_none, box_begins, depot_points_small, each_between, first_vector, flat_stock_before, flat_stock_behind, high_begins, joined_at, limits_hold, low_begins, low_some, mapped_among, nothing_above, of_each, over_count, over_count_more, over_more, over_small, room_at, small_range, some_vectors, stocks_between, stocks_count, turned_curve, whole_room}
 pub use Rattle.family_points.proofs.Rooms.{held_ordered}
 pub use Rattle.family_points.proofs.Scores.{backorders_small}
 pub use Rattle.family_points.proofs.Separate.{at_base, separated_is}

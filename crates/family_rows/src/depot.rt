@@ -5,6 +5,7 @@ ghost use Rattle.spares_input.specs.Limits.{most_stock};
 ghost use Rattle.fleet_model.specs.Laws.{IsBase};
 ghost use Rattle.fleet_model.specs.Rows.{bases};
 ghost use Rattle.family_numbers.specs.Numbers.{shop_part};
+ghost use Rattle.family_points.specs.Boxes.{IsBox};
 ghost use Rattle.family_points.specs.Inputs.{AreShopsAt};
 ghost use Rattle.family_rows.specs.Sources.{AreSources};
 ghost use Rattle.family_rows.specs.Spots.{IsBaseAt, IsRow};
@@ -133,6 +134,24 @@ pub fn depot_tables<'a>(
     Ok(DepotTables { line, shops })
 }
 
+/// The first stock of a table, from `low` on, that leaves at most `1 / 2^halvings` of its pipeline as backorders, or
+/// `high` if none below does.
+fn likely_stock(table: &Table<48>, low: u8, high: u8, halvings: u32) -> u8
+    requires order { low ≤ high }
+    requires most { high ≤ most_stock }
+    requires halvings { halvings ≤ 4 }
+    ensures least { low ≤ result }
+    ensures most { result ≤ high }
+{
+    let few = table.ebo(0).hi() >> halvings;
+    for stock in low..high {
+        if table.ebo(stock).hi() <= few {
+            return stock;
+        }
+    }
+    high
+}
+
 /// The line unit's first stock at the depot, from `low` on, that leaves at most a quarter of its pipeline there as
 /// backorders, or `high` if none below does. A guess at the depot's stock of most vertices; no promise rests on it.
 pub fn likely_line(tables: &DepotTables<'_>, low: u8, high: u8) -> u8
@@ -141,13 +160,32 @@ pub fn likely_line(tables: &DepotTables<'_>, low: u8, high: u8) -> u8
     ensures least { low ≤ result }
     ensures most { result ≤ high }
 {
-    let few = tables.line.ebo(0).hi() / 4;
-    for stock in low..high {
-        if tables.line.ebo(stock).hi() <= few {
-            return stock;
-        }
+    likely_stock(&tables.line, low, high, 2)
+}
+
+/// The number of a vector between `low` and `high`, in dictionary order, with a likely stock of each table.
+fn likely_number(tables: &[Table<48>], low: &[u8], high: &[u8]) -> u64
+    requires bounds { IsBox low.now high.now }
+{
+    let mut number: u64 = 0;
+    for k in 0..low.len().min(tables.len()) {
+        let stock = likely_stock(&tables[k], low[k], high[k], 4);
+        let width = u64::from(high[k] - low[k]) + 1;
+        number = number
+            .saturating_mul(width)
+            .saturating_add(u64::from(stock - low[k]));
     }
-    high
+    number
+}
+
+/// The number of the shop units' vector at the depot that leaves at most a sixteenth of each one's pipeline there as
+/// backorders. A guess at the vector of most vertices; no promise rests on it.
+pub fn likely_shops(sources: &Sources<'_>) -> u64 {
+    let family = sources.family;
+    family.invariant();
+    let low = shops_of(family.low(SiteId(0)));
+    let high = shops_of(family.high(SiteId(0)));
+    likely_number(sources.depot_shops.as_slice(), low, high)
 }
 
 /// The shop units' parts at a base.
