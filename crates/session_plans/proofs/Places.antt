@@ -1,7 +1,8 @@
 -- Values that are kept of families, one family after another.
 use Rattle.std.proofs.Common.{◌≡◌, ◌≢◌, ℕ, zero, suc, ◌+◌, ◌-◌, ◌<◌, ◌≤◌, ◌⊎◌, inl, inr, Bool, true, false, List, [], ◌∷◌, ◌++◌, length, map, take, drop, get_or, set, replicate, All, Option, Some, None, is_some, IfSome, IsSome, refl, sym, ap, ◌∙◌, subst, arith, get_or-set_other, get_or-set_same, length-set}
 use Rattle.std.proofs.lemmas.Bool.{false≢true}
-use Rattle.std.proofs.lemmas.List.{append-nil, ext_get_or, get_or-append_right, get_or-drop, get_or-map, get_or-replicate, get_or_past, length-map, length-replicate, take_all}
+use Rattle.std.proofs.lemmas.List.{append_assoc, append-nil, drop_more, drop-set-lt, ext_get_or, get_or-append_right, get_or-drop, get_or-map, get_or-replicate, get_or_past, length-append, length-map, length-replicate, map-append, take_all}
+use Rattle.std.proofs.lemmas.Grind.{drop-set_at}
 use Rattle.list_laws.proofs.Public.{same_or_not}
 use Rattle.spares_input.specs.Cases.{CaseRows}
 use Rattle.spares_input.specs.declared.rows.PartId.{PartId}
@@ -129,6 +130,56 @@ not_taken {X} xs kept before k d e n =
     ∙ get_or-append_right (map some xs) (drop k kept) k k d (length-map xs some ∙ n) (omega arith)
     ∙ get_or-drop k kept (k - k) d ∙ ap (λ i. get_or kept i d) (omega arith)
 
+-- past the end of a list nothing is left
+drop_past : {X : Type 0} (i : ℕ) (zs : List X) → length zs ≤ i → drop i zs ≡ []
+drop_past zero [] b = refl
+drop_past zero (z ∷ zs) b = absurd (omega (arith, b))
+drop_past (suc i) [] b = refl
+drop_past (suc i) (z ∷ zs) b = drop_past i zs (omega (arith, b))
+
+-- one more value is taken
+pub taken_next : {X : Type 0} (xs ys : List X) (v : X) (kept before : List (Option X)) (k : ℕ) (d w : Option X) → map Some xs ++ drop k kept ≡ before → k < length kept
+    → get_or kept k d ≡ Some v → ys ≡ xs ++ v ∷ [] → map Some ys ++ drop (k + 1) (set kept k w) ≡ before
+taken_next {X} xs ys v kept before k d w moved b is more =
+    let some = (λ (x : X). Some x) in
+    ap (λ (zs : List X). map some zs ++ drop (k + 1) (set kept k w)) more
+    ∙ ap (λ (zs : List (Option X)). zs ++ drop (k + 1) (set kept k w)) (map-append some xs (v ∷ []))
+    ∙ ap (λ (zs : List (Option X)). (map some xs ++ some v ∷ []) ++ zs) (drop-set-lt (k + 1) kept k w (omega arith))
+    ∙ append_assoc (map some xs) (some v ∷ []) (drop (k + 1) kept)
+    ∙ ap (λ (o : Option X). map some xs ++ o ∷ drop (k + 1) kept) (sym is)
+    ∙ ap (λ (zs : List (Option X)). map some xs ++ zs) (sym (drop_more kept k d b)) ∙ moved
+
+-- all values are taken
+pub taken_all : {X : Type 0} (xs : List X) (kept before : List (Option X)) (k : ℕ) → map Some xs ++ drop k kept ≡ before → length kept ≤ k → map Some xs ≡ before
+taken_all {X} xs kept before k moved b =
+    let taken = map (λ (x : X). Some x) xs in
+    sym (append-nil taken) ∙ ap (λ (zs : List (Option X)). taken ++ zs) (sym (drop_past k kept b)) ∙ moved
+
+-- and there are as many as places
+pub as_many : {X : Type 0} (xs : List X) (kept after : List (Option X)) → map Some xs ≡ kept → length after ≡ length kept → length xs ≡ length after
+as_many {X} xs kept after e long = sym (length-map xs (λ (x : X). Some x)) ∙ ap (λ (vs : List (Option X)). length vs) e ∙ sym long
+
+-- no value is put back yet
+pub put_none : {X : Type 0} (xs : List X) (kept : List (Option X)) → length xs ≡ length kept → map Some xs ++ drop (length xs) kept ≡ map Some xs
+put_none {X} xs kept e =
+    let taken = map (λ (x : X). Some x) xs in
+    ap (λ (zs : List (Option X)). taken ++ zs) (drop_past (length xs) kept (omega (arith, e))) ∙ append-nil taken
+
+-- one more value is put back
+pub put_next : {X : Type 0} (xs ys : List X) (v : X) (kept all : List (Option X)) (i : ℕ) → map Some xs ++ drop (length xs) kept ≡ all → length xs ≤ length kept
+    → xs ≡ ys ++ v ∷ [] → i ≡ length ys → (map Some ys ++ drop (length ys) (set kept i (Some v)) ≡ all) × (length ys ≤ length (set kept i (Some v)))
+put_next {X} xs ys v kept all i moved within more is =
+    let some = (λ (x : X). Some x) in
+    let long : length xs ≡ length ys + 1 = ap (λ (zs : List X). length zs) more ∙ length-append ys (v ∷ []) in
+    let next : i + 1 ≡ length xs = omega (arith, is, long) in (
+      ap (λ (zs : List (Option X)). map some ys ++ zs) (drop-set_at kept i (length ys) (some v) (sym is) (omega (arith, next, within)))
+          ∙ ap (λ n. map some ys ++ some v ∷ drop n kept) next
+          ∙ sym (append_assoc (map some ys) (some v ∷ []) (drop (length xs) kept))
+          ∙ ap (λ (zs : List (Option X)). zs ++ drop (length xs) kept) (sym (map-append some ys (v ∷ [])) ∙ ap (λ (zs : List X). map some zs) (sym more))
+          ∙ moved,
+      omega (arith, length-set kept i (some v), long, within),
+    )
+
 -- ---- family after family
 
 -- the number of the unit at a place
@@ -223,12 +274,6 @@ module _ {X : Type 0} (IsOf : ℕ → X → Type 0) (c : CaseRows) (units : List
 pub written : {X : Type 0} (n : ℕ) (xs ys : List X) → length xs ≡ n → length ys ≡ n → take n (xs ++ drop (length xs) ys) ≡ xs
 written n xs ys e k =
     ap (λ (zs : List _). take n (xs ++ zs)) (drop_past (length xs) ys (omega (arith, e, k))) ∙ ap (take n) (append-nil xs) ∙ take_all n xs (omega (arith, e))
-  where
-    drop_past : {X : Type 0} (i : ℕ) (zs : List X) → length zs ≤ i → drop i zs ≡ []
-    drop_past zero [] b = refl
-    drop_past zero (z ∷ zs) b = absurd (omega (arith, b))
-    drop_past (suc i) [] b = refl
-    drop_past (suc i) (z ∷ zs) b = drop_past i zs (omega (arith, b))
 
 -- and the same list written over itself is the result
 pub rewritten : {X : Type 0} (n : ℕ) (xs ys : List X) → xs ≡ ys → n ≡ length ys → take n (xs ++ drop (length xs) ys) ≡ ys

@@ -64,10 +64,9 @@ module _ (c : CaseRows) (kept : List (Option (List Point))) (curves : List (List
   pub serve : AreFamilyCurves c curves
   serve = are_family_curves plain_ends c [] curves each_curve
 
-  -- the report of a plan of these curves is that of the case under this budget
-  pub reported : (budget : ℕ) (outcome : Outcome) → IsAcceptedCase c → IsPlanOf c curves (plain_request budget) outcome
-      → IsReportOf (record { case = c; budget = budget }) outcome.report
-  reported budget outcome accepted = reported_by c curves budget outcome accepted (are_curves plain_ends c [] curves each_curve)
+  -- and these are curves of the case's points
+  pub are_of_case : AreCurves (case_points plain_ends c []) curves
+  are_of_case = are_curves plain_ends c [] curves each_curve
 
 -- its text can be printed
 pub report_printed : (d : PlanDue) (report : PlanReport) → IsReportOf d report → FitsPlan report

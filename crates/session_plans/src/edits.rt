@@ -16,7 +16,7 @@ ghost use Rattle.session_plans.specs.Following.{standing, Follows};
 ghost use Rattle.session_plans.specs.Sessions.{started};
 
 use crate::session::Session;
-use answers::{List, Stop};
+use answers::{List, NoMemory, Stop};
 use case_edits::{Edit, EditFault, edit_in, first_line};
 use held_plan::CurveMaker;
 use plan_report::PlanReport;
@@ -43,8 +43,10 @@ pub fn run_edits_by<M: CurveMaker>(
     ensures answer { AnswersEdits (session_of case bytes.now) result }
     ensures fits { IfOk result (λ report. All FitsPlan report.plans) }
 {
-    let mut session = Session::new(alloc, case, 0)?;
-    followed(alloc, &mut session, bytes, maker)
+    match Session::new(alloc, case, 0) {
+        Ok(mut session) => followed(alloc, &mut session, bytes, maker),
+        Err(NoMemory) => Err(Stop::NoMemory),
+    }
 }
 
 /// The plans that the lines of an edits file ask for, in a new session.

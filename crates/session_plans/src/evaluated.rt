@@ -1,6 +1,6 @@
 //! The evaluations that a session keeps.
 
-ghost use Rattle.std.specs.Prelude.{◌≡◌, ◌<◌, ℕ, List, None, Some, true, length, map, IfOk, IfSome, IsSome, OnOk};
+ghost use Rattle.std.specs.Prelude.{◌≡◌, ◌<◌, ℕ, List, [], None, Some, true, length, map, IfOk, IfSome, IsSome, OnOk};
 ghost use Rattle.spares_input.specs.Stocks.{stock_at, HasPair, IsFor};
 ghost use Rattle.fleet_model.specs.Rows.{line_units};
 ghost use Rattle.demand_rates.specs.Limits.{rate_fault_of};
@@ -8,9 +8,13 @@ ghost use Rattle.demand_rates.specs.Rates.{AreRatesOf};
 ghost use Rattle.family_items.specs.Encloses.{CanEvaluate};
 ghost use Rattle.family_items.specs.Inputs.{IsLine};
 ghost use Rattle.family_items.specs.Profile.{families_of};
+ghost use Rattle.family_points.specs.Points.{plain_ends};
 ghost use Rattle.hull.specs.declared.point.Point.{Point};
+ghost use Rattle.marginal_alloc.specs.Choice.{AreCurves};
+ghost use Rattle.fleet_plan.specs.Families.{case_points};
 ghost use Rattle.case_plan.specs.Chosen.{FitsCase, IsChosen};
-ghost use Rattle.case_plan.specs.Report.{plain_request, IsPlanOf};
+ghost use Rattle.case_plan.specs.Report.{IsPlanOf};
+ghost use Rattle.session_report.specs.Reports.{IsReportOf};
 ghost use Rattle.session_plans.specs.Sessions.{AreEvaluated, AreOfFamilies, IsEvaluation};
 ghost use Rattle.session_plans.specs.Settling.{AreSettled};
 
@@ -21,6 +25,7 @@ use case_plan::{ChosenStocks, Outcome, Request, outcome_at};
 use demand_rates::kinds::Rates;
 use family_eval::evaluate;
 use family_items::FamilyResult;
+use plan_report::PlanReport;
 use spares_input::{Case, PartId, SiteId, Stocks, nothing_held};
 use std::alloc::Global;
 
@@ -147,10 +152,14 @@ fn evaluate_at(
     ensures kept { AreEvaluated case.now evaluated.new }
     ensures all { OnOk result (evaluated.new.families.items ≡ map Some (families_of 48 case.now stocks.now)) }
 {
-    let copy = copied(alloc, stocks, case.site_count())?;
-    settle(case, &evaluated.stocks, stocks, &mut evaluated.families);
-    evaluated.stocks = copy;
-    renew_all(alloc, case, rates, stocks, &mut evaluated.families)
+    match copied(alloc, stocks, case.site_count()) {
+        Ok(copy) => {
+            settle(case, &evaluated.stocks, stocks, &mut evaluated.families);
+            evaluated.stocks = copy;
+            renew_all(alloc, case, rates, stocks, &mut evaluated.families)
+        }
+        Err(no_memory) => Err(no_memory),
+    }
 }
 
 /// The outcome of chosen stocks at which all families are evaluated. Each evaluation stays kept, also if memory is
@@ -169,36 +178,72 @@ fn outcome_by(
     ensures case { IfOk result (λ outcome. (curves : List (List Point)) → IsChosen case.now curves request.budget chosen
         → IsPlanOf case.now curves request outcome) }
 {
-    let families = all_taken(alloc, kept)?;
-    let outcome = outcome_at(alloc, case, chosen, families.as_slice(), request);
-    put_back(kept, families);
-    outcome
+    match all_taken(alloc, kept) {
+        Ok(families) => {
+            let outcome = outcome_at(alloc, case, chosen, families.as_slice(), request);
+            put_back(kept, families);
+            outcome
+        }
+        Err(no_memory) => {
+            drop(chosen);
+            Err(no_memory)
+        }
+    }
 }
 
-/// The outcome of chosen stocks, by weighted backorders under a budget. Each evaluation at these stocks stays kept,
-/// also if memory is wanted.
-pub(crate) fn outcome_of(
+/// The report of chosen stocks at which all families are evaluated, by weighted backorders under a budget. Each
+/// evaluation stays kept, also if memory is wanted.
+fn report_by(
+    alloc: Global,
+    case: &Case,
+    chosen: ChosenStocks,
+    kept: &mut [Option<FamilyResult<48>>],
+    budget: u64,
+) -> Result<PlanReport, NoMemory>
+    requires rates { rate_fault_of case.now ≡ None }
+    requires fits { FitsCase case.now chosen }
+    requires all { kept.old ≡ map Some (families_of 48 case.now chosen.stocks) }
+    ensures kept { kept.new ≡ kept.old }
+    ensures report { IfOk result (λ report. (curves : List (List Point))
+        → AreCurves (case_points plain_ends case.now []) curves → IsChosen case.now curves budget chosen
+        → IsReportOf (record { case = case.now; budget = budget }) report) }
+{
+    case.invariant();
+    let request = Request {
+        budget,
+        loss: false,
+        on_hand: None,
+    };
+    match outcome_by(alloc, case, chosen, kept, request) {
+        Ok(outcome) => Ok(outcome.report),
+        Err(no_memory) => Err(no_memory),
+    }
+}
+
+/// The report of chosen stocks, by weighted backorders under a budget. Each evaluation at these stocks stays kept, also
+/// if memory is wanted.
+pub(crate) fn report_of(
     alloc: Global,
     case: &Case,
     rates: &Rates,
     chosen: ChosenStocks,
     budget: u64,
     evaluated: &mut Evaluated,
-) -> Result<Outcome, NoMemory>
+) -> Result<PlanReport, NoMemory>
     requires rates { AreRatesOf case.now rates.now }
     requires fits { FitsCase case.now chosen }
     requires kept { AreEvaluated case.now evaluated.old }
     ensures kept { AreEvaluated case.now evaluated.new }
-    ensures plan { IfOk result (λ outcome. (curves : List (List Point)) → IsChosen case.now curves budget chosen
-        → IsPlanOf case.now curves (plain_request budget) outcome) }
+    ensures report { IfOk result (λ report. (curves : List (List Point))
+        → AreCurves (case_points plain_ends case.now []) curves → IsChosen case.now curves budget chosen
+        → IsReportOf (record { case = case.now; budget = budget }) report) }
 {
     case.invariant();
-    evaluate_at(alloc, case, rates, &chosen.stocks, evaluated)?;
-    let request = Request {
-        budget,
-        loss: false,
-        on_hand: None,
-    };
-    let outcome = outcome_by(alloc, case, chosen, &mut evaluated.families, request)?;
-    Ok(outcome)
+    match evaluate_at(alloc, case, rates, &chosen.stocks, evaluated) {
+        Ok(()) => report_by(alloc, case, chosen, &mut evaluated.families, budget),
+        Err(no_memory) => {
+            drop(chosen);
+            Err(no_memory)
+        }
+    }
 }

@@ -128,10 +128,14 @@ pub(crate) fn chosen_by(
     ensures fits { IfOk result (FitsCase case.now) }
     ensures chosen { IfOk result (IsChosen case.now (values_of kept.old) budget) }
 {
-    let curves = all_taken(alloc, kept)?;
-    let chosen = choose_stocks(alloc, case, curves.as_slice(), budget, near);
-    put_back(kept, curves);
-    chosen
+    match all_taken(alloc, kept) {
+        Ok(curves) => {
+            let chosen = choose_stocks(alloc, case, curves.as_slice(), budget, near);
+            put_back(kept, curves);
+            chosen
+        }
+        Err(no_memory) => Err(no_memory),
+    }
 }
 
 /// The stocks that parts of the curves of all families choose, if some serve. Parts that were used stay kept.

@@ -1,6 +1,6 @@
 //! The case and the budget of a session, with the kept curves, parts of curves and evaluations.
 
-ghost use Rattle.std.specs.Prelude.{◌≡◌, ◌<◌, ◌≤◌, [], true, not, length, get_or, replicate, is_none, All, IfOk, IfSome, IsSome};
+ghost use Rattle.std.specs.Prelude.{◌≡◌, ◌<◌, ◌≤◌, [], None, true, not, length, get_or, replicate, is_none, All, IfOk, IfSome, IsSome};
 ghost use Rattle.std.specs.Result.{IsOk};
 ghost use Rattle.spares_input.specs.Cases.{frame_rows, IsRateOf};
 ghost use Rattle.fleet_model.specs.Rows.{line_units};
@@ -9,15 +9,12 @@ ghost use Rattle.family_points.specs.Counts.{work_of};
 ghost use Rattle.held_work.specs.Curves.{IsFamilyCurve};
 ghost use Rattle.spares_input.specs.Money.{most_budget};
 ghost use Rattle.family_points.specs.Points.{plain_ends};
-ghost use Rattle.case_plan.specs.Report.{IsPlanOf, plain_request};
 ghost use Rattle.session_report.specs.Reports.{IsReportOf};
-ghost use Rattle.session_plans.specs.Sessions.{due, has_mark, started, with_budget, with_row, AnswersPlan, AreEvaluated, AreKept, IsLater};
-ghost use Rattle.session_plans.specs.Settling.{values_of};
+ghost use Rattle.session_plans.specs.Sessions.{due, has_mark, started, with_budget, with_row, AnswersPlan, AreEvaluated, AreKept, ArePartsKept, IsLater};
 
-use crate::evaluated::{Evaluated, nothing_evaluated, outcome_of};
+use crate::evaluated::{Evaluated, nothing_evaluated, report_of};
 use crate::kept::{chosen_by, chosen_by_parts, keep_all, nothing_kept, place_of};
 use answers::{NoMemory, Stop};
-use case_plan::Outcome;
 use demand_rates::kinds::Rates;
 use demand_rates::{RateFault, rates};
 use held_plan::{CurveMaker, KeptParts};
@@ -60,9 +57,24 @@ fn above(price: Price) -> u128 {
     whole.saturating_add(whole / 32)
 }
 
-/// The outcome of the plan of these curves, which are all there. The search for the price begins near the last plan's,
+/// What a session keeps before its first plan: no curve, no part of a curve, no evaluation.
+fn nothing_known(
+    alloc: Global,
+    case: &Case,
+) -> Result<(Vec<Option<Curve>>, KeptParts, Evaluated), NoMemory>
+    ensures curves { IfOk result (λ known. known.0.items ≡ replicate (length (line_units case.now)) None) }
+    ensures parts { IfOk result (λ known. ArePartsKept case.now known.1) }
+    ensures evaluated { IfOk result (λ known. AreEvaluated case.now known.2) }
+{
+    let curves = nothing_kept(alloc, case)?;
+    let parts = KeptParts::new(alloc, curves.len())?;
+    let evaluated = nothing_evaluated(alloc, case)?;
+    Ok((curves, parts, evaluated))
+}
+
+/// The report of the plan of these curves, which are all there. The search for the price begins near the last plan's,
 /// and only the families whose stocks differ from its stocks are evaluated.
-fn outcome_near(
+fn report_near(
     alloc: Global,
     case: &Case,
     rates: &Rates,
@@ -70,7 +82,7 @@ fn outcome_near(
     budget: u64,
     near: &mut u128,
     evaluated: &mut Evaluated,
-) -> Result<Outcome, NoMemory>
+) -> Result<PlanReport, NoMemory>
     requires rates { AreRatesOf case.now rates.now }
     requires budget { budget ≤ most_budget }
     requires all { All IsSome curves.old }
@@ -78,13 +90,50 @@ fn outcome_near(
     requires kept { AreEvaluated case.now evaluated.old }
     ensures curves { curves.new ≡ curves.old }
     ensures kept { AreEvaluated case.now evaluated.new }
-    ensures plan { IfOk result (IsPlanOf case.now (values_of curves.old) (plain_request budget)) }
+    ensures report { IfOk result (IsReportOf (record { case = case.now; budget = budget })) }
 {
-    case.invariant();
-    let chosen = chosen_by(alloc, case, curves, budget, *near)?;
-    *near = above(chosen.numbers.price);
-    let outcome = outcome_of(alloc, case, rates, chosen, budget, evaluated)?;
-    Ok(outcome)
+    match chosen_by(alloc, case, curves, budget, *near) {
+        Ok(chosen) => {
+            *near = above(chosen.numbers.price);
+            report_of(alloc, case, rates, chosen, budget, evaluated)
+        }
+        Err(no_memory) => Err(no_memory),
+    }
+}
+
+/// The report of the plan that parts of the curves of all families choose, if some serve. Parts that were used and
+/// evaluations at its stocks stay kept.
+fn report_by_parts<M: CurveMaker>(
+    alloc: Global,
+    case: &Case,
+    rates: &Rates,
+    maker: &M,
+    parts: &mut KeptParts,
+    budget: u64,
+    evaluated: &mut Evaluated,
+) -> Result<Option<PlanReport>, NoMemory>
+    requires rates { AreRatesOf case.now rates.now }
+    requires work { IsOk (work_of case.now) }
+    requires budget { budget ≤ most_budget }
+    requires parts { ArePartsKept case.now parts.old }
+    requires kept { AreEvaluated case.now evaluated.old }
+    ensures parts { ArePartsKept case.now parts.new }
+    ensures kept { AreEvaluated case.now evaluated.new }
+    ensures report { IfOk result (λ found. IfSome found (IsReportOf (record { case = case.now; budget = budget }))) }
+{
+    match chosen_by_parts(alloc, case, rates, maker, parts, budget) {
+        Ok(Some(chosen)) => match report_of(alloc, case, rates, chosen, budget, evaluated) {
+            Ok(report) => Ok(Some(report)),
+            Err(no_memory) => Err(no_memory),
+        },
+        Ok(None) => Ok(None),
+        Err(no_memory) => Err(no_memory),
+    }
+}
+
+/// Whether a whole curve is kept.
+fn is_any_kept(curves: &[Option<Curve>]) -> bool {
+    curves.iter().any(|curve| curve.is_some())
 }
 
 impl Session {
@@ -95,17 +144,18 @@ impl Session {
         requires budget { budget ≤ most_budget }
         ensures { IfOk result (λ s. s ≡ started case budget) }
     {
-        let curves = nothing_kept(alloc, &case)?;
-        let parts = KeptParts::new(alloc, curves.len())?;
-        let evaluated = nothing_evaluated(alloc, &case)?;
-        Ok(Session {
-            case,
-            budget,
-            curves,
-            parts,
-            evaluated,
-            near: 0,
-        })
+        case.invariant();
+        match nothing_known(alloc, &case) {
+            Ok((curves, parts, evaluated)) => Ok(Session {
+                case,
+                budget,
+                curves,
+                parts,
+                evaluated,
+                near: 0,
+            }),
+            Err(no_memory) => Err(no_memory),
+        }
     }
 
     /// Changes only the budget.
@@ -152,7 +202,7 @@ impl Session {
         ensures marks { IfOk result (λ _. self.new.marks ≡ replicate (length (line_units self.old.case)) true) }
     {
         keep_all(alloc, &self.case, rates, &mut self.curves)?;
-        let outcome = outcome_near(
+        report_near(
             alloc,
             &self.case,
             rates,
@@ -160,8 +210,7 @@ impl Session {
             self.budget,
             &mut self.near,
             &mut self.evaluated,
-        )?;
-        Ok(outcome.report)
+        )
     }
 
     /// The same plan or rule, for an edits file. While no curve is kept it is made of parts of curves, if some serve,
@@ -188,11 +237,11 @@ impl Session {
         ensures report { IfOk result (IsReportOf (due self.old)) }
         ensures later { IsLater self.old self.new }
     {
-        if let Some(report) = self.planned_by_parts(alloc, rates, maker)? {
-            return Ok(report);
+        match self.planned_by_parts(alloc, rates, maker) {
+            Ok(Some(report)) => Ok(report),
+            Ok(None) => self.planned(alloc, rates),
+            Err(no_memory) => Err(no_memory),
         }
-        let whole = self.planned(alloc, rates)?;
-        Ok(whole)
     }
 
     /// The same plan by parts of the curves. None if a whole curve is kept, or if no parts serve.
@@ -206,29 +255,18 @@ impl Session {
         ensures report { IfOk result (λ found. IfSome found (IsReportOf (due self.old))) }
         ensures later { IsLater self.old self.new }
     {
-        if self.curves.iter().any(|curve| curve.is_some()) {
+        if is_any_kept(&self.curves) {
             return Ok(None);
         }
-        let Some(chosen) = chosen_by_parts(
+        report_by_parts(
             alloc,
             &self.case,
             rates,
             maker,
             &mut self.parts,
             self.budget,
-        )?
-        else {
-            return Ok(None);
-        };
-        let outcome = outcome_of(
-            alloc,
-            &self.case,
-            rates,
-            chosen,
-            self.budget,
             &mut self.evaluated,
-        )?;
-        Ok(Some(outcome.report))
+        )
     }
 
     /// The count of families.

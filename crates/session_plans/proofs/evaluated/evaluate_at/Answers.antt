@@ -21,10 +21,10 @@ renew_all-requires-clause-kept c =
     let settled = kept_at d c.requires.inputs.valid x.stocks new c.requires.kept.is_for c.requires.inputs.are_stocks.is_for c.deref_mut.result.now c.settle.new.families c.settle.ensures was in
     let count : length c.settle.new.families ≡ x.families.len = settled.count ∙ sym c.requires.kept.are_kept.count ∙ sym x.families.ok.0 in
     subst (λ (fs : List (Option (FamilyResult 48))). AreOfFamilies (IsEvaluation d new) d fs)
-    (sym (c.deref_mut-2.ensures.value ∙ written x.families.len c.settle.new.families x.families.items count (sym x.families.ok.0))) settled
+    (sym (c.deref_mut-in-Ok.ensures.value ∙ written x.families.len c.settle.new.families x.families.items count (sym x.families.ok.0))) settled
 
-pub returns-clause-all : goal.returns-clause-all
-returns-clause-all c =
+pub returns-in-Ok-clause-all : goal.returns-in-Ok-clause-all
+returns-in-Ok-clause-all c =
     let x = c.args.evaluated.now in
     let sized : length x.families.items ≡ x.families.len = sym x.families.ok.0 in
     let count : length c.settle.new.families ≡ x.families.len =
@@ -34,3 +34,15 @@ returns-clause-all c =
     after c.renew_all.result _ _
     (λ all. written x.families.len c.renew_all.new.families _ long (ap (λ (fs : List (Option (FamilyResult 48))). length fs) settled ∙ count) ∙ all)
     c.renew_all.ensures.all
+
+pub settle-requires-clause-old : goal.settle-requires-clause-old
+settle-requires-clause-old c = c.requires.kept.is_for
+
+pub settle-requires-clause-new : goal.settle-requires-clause-new
+settle-requires-clause-new c = c.requires.inputs.are_stocks.is_for
+
+pub renew_all-requires-clause-inputs : goal.renew_all-requires-clause-inputs
+renew_all-requires-clause-inputs c = c.requires.inputs
+
+pub renew_all-requires-clause-rates : goal.renew_all-requires-clause-rates
+renew_all-requires-clause-rates c = c.requires.rates

@@ -1,18 +1,14 @@
-use Rattle.std.proofs.Common.{◌≡◌, ◌++◌, ℕ, ap, drop, length, List, None, Option, refl, replicate, sym, subst, take, true, ◌∙◌, All, IsSome}
-use Rattle.std.proofs.lemmas.Result.{err_from_is_err_and}
+use Rattle.std.proofs.Common.{◌≡◌, ◌++◌, ℕ, ap, drop, length, List, Option, refl, replicate, sym, subst, take, true, ◌∙◌, All, IfOk, IsSome}
+use Rattle.std.proofs.lemmas.Result.{err_from_is_err_and, IfOk-weaker}
 use Rattle.spares_input.specs.Cases.{CaseRows}
 use Rattle.fleet_model.specs.Rows.{line_units}
-use Rattle.demand_rates.specs.Limits.{rate_fault_of}
 use Rattle.demand_rates.specs.Rates.{AreRatesOf}
 use Rattle.hull.specs.declared.point.Point.{Point}
-use Rattle.case_plan.specs.Report.{IsPlanOf, plain_request}
 use Rattle.session_plans.specs.Sessions.{due, marks_of, AreEvaluated, AreKept, AreLater, IsLater, IsSession, SessionRows}
-use Rattle.session_plans.specs.Settling.{values_of}
 use Rattle.session_plans.specs.declared.evaluated.Evaluated.{Evaluated}
 use Rattle.held_plan.specs.Kept.{KeptRows}
 use Rattle.session_report.specs.Reports.{IsReportOf}
-use Rattle.session_plans.proofs.Places.{all_kept, all_there, written}
-use Rattle.session_plans.proofs.Reported.{reported}
+use Rattle.session_plans.proofs.Places.{all_kept, written}
 use Rattle.session_plans.proofs.session.Session.planned.Goals as goal
 
 -- ---- a session whose curves were written, and again for a while
@@ -49,15 +45,15 @@ module _ (c : CaseRows) (budget : ℕ) (parts : KeptRows) (x : Evaluated) (n : �
         let long : length kept ≡ n = is.count ∙ sym was.are_kept.count ∙ sym many in
         written n new first (ap (λ (z : List (Option (List Point))). length z) all ∙ long) (ap (λ (z : List (Option (List Point))). length z) there ∙ long) ∙ all
 
-pub outcome_near-requires-clause-all : goal.outcome_near-requires-clause-all
-outcome_near-requires-clause-all c =
+pub report_near-requires-clause-all : goal.report_near-requires-clause-all
+report_near-requires-clause-all c =
     subst (λ (z : List (Option (List Point))). All IsSome z) (sym (still c.self.inside.case c.self.inside.budget c.self.inside.parts c.self.inside.evaluated c.self.inside.curves.len c.self.inside.curves.items c.deref_mut.result.now c.keep_all.new.curves c.self.inside.curves.ok.0
     c.deref_mut.ensures.value c.self.invariant c.keep_all.ensures.kept c.keep_all.ensures.later
     c.deref_mut-2.result.now c.deref_mut-2.ensures.value))
     (all_kept c.keep_all.new.curves (length (line_units c.self.inside.case)) c.in_ok-keep_all.ensures.on)
 
-pub outcome_near-requires-clause-curves : goal.outcome_near-requires-clause-curves
-outcome_near-requires-clause-curves c =
+pub report_near-requires-clause-curves : goal.report_near-requires-clause-curves
+report_near-requires-clause-curves c =
     subst (λ (z : List (Option (List Point))). AreKept c.self.inside.case z) (sym (still c.self.inside.case c.self.inside.budget c.self.inside.parts c.self.inside.evaluated c.self.inside.curves.len c.self.inside.curves.items c.deref_mut.result.now c.keep_all.new.curves c.self.inside.curves.ok.0
     c.deref_mut.ensures.value c.self.invariant c.keep_all.ensures.kept c.keep_all.ensures.later
     c.deref_mut-2.result.now c.deref_mut-2.ensures.value))
@@ -67,21 +63,13 @@ pub invariant_of-self-2 : goal.invariant_of-self-2
 invariant_of-self-2 c =
     session_by c.self.inside.case c.self.inside.budget c.self.inside.parts c.self.inside.evaluated c.self.inside.curves.len c.self.inside.curves.items c.deref_mut.result.now c.keep_all.new.curves c.self.inside.curves.ok.0
     c.deref_mut.ensures.value c.self.invariant c.keep_all.ensures.kept c.keep_all.ensures.later
-    _ c.outcome_near.new.evaluated (back c.self.inside.case c.self.inside.budget c.self.inside.parts c.self.inside.evaluated c.self.inside.curves.len c.self.inside.curves.items c.deref_mut.result.now c.keep_all.new.curves c.self.inside.curves.ok.0
+    _ c.report_near.new.evaluated (back c.self.inside.case c.self.inside.budget c.self.inside.parts c.self.inside.evaluated c.self.inside.curves.len c.self.inside.curves.items c.deref_mut.result.now c.keep_all.new.curves c.self.inside.curves.ok.0
     c.deref_mut.ensures.value c.self.invariant c.keep_all.ensures.kept c.keep_all.ensures.later
-    c.deref_mut-2.result.now c.outcome_near.new.curves c.deref_mut-2.ensures.value c.outcome_near.ensures.curves) c.outcome_near.ensures.kept
+    c.deref_mut-2.result.now c.report_near.new.curves c.deref_mut-2.ensures.value c.report_near.ensures.curves) c.report_near.ensures.kept
 
 pub returns-clause-report : goal.returns-clause-report
 returns-clause-report c =
-    subst (λ (s : SessionRows). IsReportOf (due s) c.in_ok-outcome.outcome.report) c.self.view_is
-    (reported c.self.inside.case c.keep_all.new.curves (values_of c.keep_all.new.curves)
-    (all_there c.keep_all.new.curves (all_kept c.keep_all.new.curves (length (line_units c.self.inside.case)) c.in_ok-keep_all.ensures.on)) c.keep_all.ensures.kept
-    c.self.inside.budget c.in_ok-outcome.outcome
-    (record { valid = c.self.invariant.valid; no_fault = subst (λ (s : SessionRows). rate_fault_of s.case ≡ None) (sym c.self.view_is) c.requires.no_fault })
-    (subst (λ (z : List (Option (List Point))). IsPlanOf c.self.inside.case (values_of z) (plain_request c.self.inside.budget) c.in_ok-outcome.outcome)
-    (still c.self.inside.case c.self.inside.budget c.self.inside.parts c.self.inside.evaluated c.self.inside.curves.len c.self.inside.curves.items c.deref_mut.result.now c.keep_all.new.curves c.self.inside.curves.ok.0
-    c.deref_mut.ensures.value c.self.invariant c.keep_all.ensures.kept c.keep_all.ensures.later
-    c.deref_mut-2.result.now c.deref_mut-2.ensures.value) c.in_ok-outcome.ensures.plan))
+    subst (λ (s : SessionRows). IfOk c.report_near.result (IsReportOf (due s))) c.self.view_is c.report_near.ensures.report
 
 pub returns-clause-later : goal.returns-clause-later
 returns-clause-later c =
@@ -89,14 +77,15 @@ returns-clause-later c =
     c.deref_mut.ensures.value c.self.invariant c.keep_all.ensures.kept c.keep_all.ensures.later
     c.args.self.now c.self.view_is _ (back c.self.inside.case c.self.inside.budget c.self.inside.parts c.self.inside.evaluated c.self.inside.curves.len c.self.inside.curves.items c.deref_mut.result.now c.keep_all.new.curves c.self.inside.curves.ok.0
     c.deref_mut.ensures.value c.self.invariant c.keep_all.ensures.kept c.keep_all.ensures.later
-    c.deref_mut-2.result.now c.outcome_near.new.curves c.deref_mut-2.ensures.value c.outcome_near.ensures.curves)
+    c.deref_mut-2.result.now c.report_near.new.curves c.deref_mut-2.ensures.value c.report_near.ensures.curves)
 
 pub returns-clause-marks : goal.returns-clause-marks
 returns-clause-marks c =
+    IfOk-weaker c.report_near.result _ _ (λ _ _.
     ap (λ (z : List (Option (List Point))). marks_of z) (back c.self.inside.case c.self.inside.budget c.self.inside.parts c.self.inside.evaluated c.self.inside.curves.len c.self.inside.curves.items c.deref_mut.result.now c.keep_all.new.curves c.self.inside.curves.ok.0
     c.deref_mut.ensures.value c.self.invariant c.keep_all.ensures.kept c.keep_all.ensures.later
-    c.deref_mut-2.result.now c.outcome_near.new.curves c.deref_mut-2.ensures.value c.outcome_near.ensures.curves)
-    ∙ c.in_ok-keep_all.ensures.on ∙ ap (λ (s : SessionRows). replicate (length (line_units s.case)) true) c.self.view_is
+    c.deref_mut-2.result.now c.report_near.new.curves c.deref_mut-2.ensures.value c.report_near.ensures.curves)
+    ∙ c.in_ok-keep_all.ensures.on ∙ ap (λ (s : SessionRows). replicate (length (line_units s.case)) true) c.self.view_is) c.report_near.ensures.report
 
 -- ---- want of memory
 
@@ -120,28 +109,6 @@ returns-in_err-keep_all-clause-later c =
 pub returns-in_err-keep_all-clause-marks : goal.returns-in_err-keep_all-clause-marks
 returns-in_err-keep_all-clause-marks c = let p = err_from_is_err_and c.from_residual.result c.from_residual.ensures.1 in rw p.1 tt
 
-pub invariant_of-self-in_err-outcome : goal.invariant_of-self-in_err-outcome
-invariant_of-self-in_err-outcome c =
-    session_by c.self.inside.case c.self.inside.budget c.self.inside.parts c.self.inside.evaluated c.self.inside.curves.len c.self.inside.curves.items c.deref_mut.result.now c.keep_all.new.curves c.self.inside.curves.ok.0
-    c.deref_mut.ensures.value c.self.invariant c.keep_all.ensures.kept c.keep_all.ensures.later
-    _ c.outcome_near.new.evaluated (back c.self.inside.case c.self.inside.budget c.self.inside.parts c.self.inside.evaluated c.self.inside.curves.len c.self.inside.curves.items c.deref_mut.result.now c.keep_all.new.curves c.self.inside.curves.ok.0
-    c.deref_mut.ensures.value c.self.invariant c.keep_all.ensures.kept c.keep_all.ensures.later
-    c.deref_mut-2.result.now c.outcome_near.new.curves c.deref_mut-2.ensures.value c.outcome_near.ensures.curves) c.outcome_near.ensures.kept
-
-pub returns-in_err-outcome-clause-report : goal.returns-in_err-outcome-clause-report
-returns-in_err-outcome-clause-report c = let p = err_from_is_err_and c.from_residual-in_err-outcome.result c.from_residual-in_err-outcome.ensures.1 in rw p.1 tt
-
-pub returns-in_err-outcome-clause-later : goal.returns-in_err-outcome-clause-later
-returns-in_err-outcome-clause-later c =
-    later_by c.self.inside.case c.self.inside.budget c.self.inside.parts c.self.inside.evaluated c.self.inside.curves.len c.self.inside.curves.items c.deref_mut.result.now c.keep_all.new.curves c.self.inside.curves.ok.0
-    c.deref_mut.ensures.value c.self.invariant c.keep_all.ensures.kept c.keep_all.ensures.later
-    c.args.self.now c.self.view_is _ (back c.self.inside.case c.self.inside.budget c.self.inside.parts c.self.inside.evaluated c.self.inside.curves.len c.self.inside.curves.items c.deref_mut.result.now c.keep_all.new.curves c.self.inside.curves.ok.0
-    c.deref_mut.ensures.value c.self.invariant c.keep_all.ensures.kept c.keep_all.ensures.later
-    c.deref_mut-2.result.now c.outcome_near.new.curves c.deref_mut-2.ensures.value c.outcome_near.ensures.curves)
-
-pub returns-in_err-outcome-clause-marks : goal.returns-in_err-outcome-clause-marks
-returns-in_err-outcome-clause-marks c = let p = err_from_is_err_and c.from_residual-in_err-outcome.result c.from_residual-in_err-outcome.ensures.1 in rw p.1 tt
-
 -- ---- what the calls ask for
 
 pub keep_all-requires-clause-rates : goal.keep_all-requires-clause-rates
@@ -154,11 +121,11 @@ pub keep_all-requires-clause-kept : goal.keep_all-requires-clause-kept
 keep_all-requires-clause-kept c =
     subst (λ (z : List (Option (List Point))). AreKept c.self.inside.case z) (sym c.deref_mut.ensures.value) c.self.invariant.are_kept
 
-pub outcome_near-requires-clause-rates : goal.outcome_near-requires-clause-rates
-outcome_near-requires-clause-rates c = subst (λ (s : SessionRows). AreRatesOf s.case c.args.rates.now) (sym c.self.view_is) c.requires
+pub report_near-requires-clause-rates : goal.report_near-requires-clause-rates
+report_near-requires-clause-rates c = subst (λ (s : SessionRows). AreRatesOf s.case c.args.rates.now) (sym c.self.view_is) c.requires
 
-pub outcome_near-requires-clause-budget : goal.outcome_near-requires-clause-budget
-outcome_near-requires-clause-budget c = c.self.invariant.budget_most
+pub report_near-requires-clause-budget : goal.report_near-requires-clause-budget
+report_near-requires-clause-budget c = c.self.invariant.budget_most
 
-pub outcome_near-requires-clause-kept : goal.outcome_near-requires-clause-kept
-outcome_near-requires-clause-kept c = c.self.invariant.are_evaluated
+pub report_near-requires-clause-kept : goal.report_near-requires-clause-kept
+report_near-requires-clause-kept c = c.self.invariant.are_evaluated
