@@ -6,11 +6,13 @@ It is `rt WORDS..`, but for four things that say nothing about what is proved, a
   of the 190,000 paths from the program down to a crate, which takes minutes.
 - Both compilers of a proved program work side by side. The kit has one wait for the other.
 - The kit begins with the crates that the most lines of others wait for. Here each crate counts some lines more, for what
-  the prover loads at each, so that it begins with those that the most work waits for.
+  the prover loads at each, and in a build only lines of code, so that it begins with those that the most work waits for.
 - Some kits keep nothing that their gate proves. With these, each library that is proved stays in a folder of the user's,
   and is taken from there while its text, the kit, and all that was built below it are the same.
 - `--build` leaves out what the gate does besides proofs: the search for contracts that no call can meet, about a tenth of
-  the work, and the program by the second compiler. What a build keeps stays in that folder too, and serves builds alone.
+  the work, and the program by the second compiler. It proves and compiles the program in one step, where the gate reads
+  all libraries for each, and gives the processors that no proof waits for to those that run. What a build keeps stays in
+  that folder too, and serves builds alone.
 With a kit that works otherwise this is `rt` as it is.
 """
 import concurrent.futures
@@ -25,7 +27,7 @@ import sys
 import tempfile
 
 FOUND_ONCE = ("below", "stamp")
-LINES_TO_LOAD = 100  # with so many, the order is nearest to that by the seconds of each crate
+LINES_TO_LOAD = 100  # with so many, the order is nearest to that by the seconds of each crate, in a build too
 KEEPS = "rattle-kept"  # the folder of a kit that keeps what its gate proves
 GIVES = "def give(self, crate, tests, key):"  # how such a kit takes something from there
 KEPT_EACH = 1  # so many texts of a crate stay, and as many of builds alone
@@ -83,11 +85,33 @@ def compile_at_once(owner, compilers):
 
 
 def leave_out(kit):
-    """Has the kit prove without a search for contracts that no call can meet, and compile a program by LLVM alone."""
-    help_of, compile_by = kit.rtlib.help_of, kit.Crate.compile_by
+    """Has the kit prove without a search for contracts that no call can meet, and prove and compile a program in one step,
+    by LLVM alone."""
+    help_of, prove = kit.rtlib.help_of, kit.Crate.ci
     kit.BACKENDS = {"llvm": kit.BACKENDS["llvm"]}
     kit.rtlib.help_of = lambda command: help_of(command).replace(SEARCH, "")
-    kit.Crate.compile_by = lambda self, compiler, *words: compile_by(self, compiler, *words) if compiler in kit.BACKENDS else 0
+
+    def answer(self, flags, tests):
+        if tests or not self.is_program:
+            return prove(self, flags, tests)
+        made, tools = f"out/{self.name}", ["--toolchain", f"{kit.KIT}/toolchain", "--backend", "llvm"]
+        status = self.prove(["build", *self.words(flags, keeps=False), *tools, "-o", f"{made}.o"])
+        return status or self.link(f"{made}.o", made)
+
+    kit.Crate.ci = answer
+
+
+def leave_out_tests(kit):
+    """Has no task wait for the tests of crates that have none: the kit leaves a processor free for each, so that a proof that
+    nothing runs beside gets two of four."""
+    in_lanes = kit.in_lanes
+
+    def answer(tasks):
+        none = [key for key, (_, lines, *_) in tasks.items() if key[1] == "tests" and not lines]
+        left = {key: ([it for it in waits if it not in none], *rest) for key, (waits, *rest) in tasks.items() if key not in none}
+        return {**in_lanes(left), **dict.fromkeys(none, True)}
+
+    kit.in_lanes = answer
 
 
 def keep_apart(kit):
@@ -112,14 +136,25 @@ def is_own(folder):
     return os.path.isdir(folder) and not os.path.islink(folder) and os.stat(folder).st_uid == os.geteuid()
 
 
-def start_longest(kit):
-    """Has each crate count some lines more."""
+def lines_of_code(crate):
+    """Returns how many lines of code a crate below this folder has."""
+    total = 0
+    for at, _, files in os.walk(f"crates/{crate}/src"):
+        for name in files:
+            with open(f"{at}/{name}", "rb") as it:
+                total += it.read().count(b"\n")
+    return total
+
+
+def start_longest(kit, is_build):
+    """Has each crate count some lines more, and in a build, which has no wrong bodies, lines of code alone."""
     in_lanes = kit.in_lanes
 
     def answer(tasks):
         counted = {}
         for key, (waits, lines, *rest) in tasks.items():
-            counted[key] = (waits, lines and lines + LINES_TO_LOAD, *rest)
+            own = lines_of_code(key[0]) if is_build else lines
+            counted[key] = (waits, lines and own + LINES_TO_LOAD, *rest)
         return in_lanes(counted)
 
     kit.in_lanes = answer
@@ -262,8 +297,9 @@ def main(words):
         compilers = [*kit.BACKENDS]
         if is_build and (kit.keeps_nothing or kit.keeps_proofs):
             leave_out(kit)
+            leave_out_tests(kit)
         compile_at_once(kit.Crate, compilers)
-        start_longest(kit)
+        start_longest(kit, is_build)
         if kit.keeps_nothing:
             keep_proved(kit, Store(users_folder(), kit, is_build))
         elif is_build and kit.keeps_proofs:
