@@ -101,7 +101,7 @@ BACKENDS = {"llvm": "", "two": ".two"}
 KIT = "$first"
 class Crate:
     name, said, allowed, folder, rlib = "low", {}, (), "$first/crates/low", "$first/crates/low/out/rlib/low.rlib"
-    made = []
+    made, is_program = [], False
     def below(self): return []
     def stamp(self): return "sum"
     def makes_rlib(self): return True
@@ -111,8 +111,9 @@ class Crate:
         with open(f"{self.rlib}/made", "w") as made:
             made.write(open(f"{self.folder}/src/lib.rt").read())
         searching = "--empty-contracts" in rtlib.help_of("check")
-        self.compile_by("llvm", flags, "out") or self.compile_by("two", flags, "out")
-        return print("proving and searching," if searching else "proving,", *sorted(self.made)) or 0
+        if self.is_program:
+            self.compile_by("llvm", flags, "out")
+        return print("proving and searching" if searching else "proving") or 0
 rtlib = types.SimpleNamespace(Crate=Crate, RATTLE="$first/KIT-ID", help_of=lambda command: "--empty-contracts")
 # all are methods of rtlib.Crate
 def in_lanes(tasks): return tasks
@@ -128,24 +129,25 @@ SCRIPT
     PATH=$first/bin XDG_CACHE_HOME=${4:-$first/cache} python3 "$first/tools/rt.py" $2 >"$room/out" 2>"$room/err" </dev/null
     compare "$1" 4 $? "$3" ''
   }
-  keeps 'a proof that is kept' ci 'proving and searching, llvm two\n0 pub fn one() {}\n\n'
+  keeps 'a proof that is kept' ci 'proving and searching\n0 pub fn one() {}\n\n'
   keeps 'a proof that was kept' ci '0 pub fn one() {}\n\n'
   keeps 'a build takes what the gate kept' '--build ci' '0 pub fn one() {}\n\n'
   printf 'damage' >"$(find "$first/cache" -name made)"
-  keeps 'a proof that is damaged' ci 'proving and searching, llvm two\n0 pub fn one() {}\n\n'
+  keeps 'a proof that is damaged' ci 'proving and searching\n0 pub fn one() {}\n\n'
   keeps 'a proof that was kept anew' ci '0 pub fn one() {}\n\n'
   printf 'pub fn two() {}\n' >"$first/crates/low/src/lib.rt"
-  keeps 'a proof of another text' '--build ci' 'proving, llvm\n0 pub fn two() {}\n\n'
+  keeps 'a proof of another text' '--build ci' 'proving\n0 pub fn two() {}\n\n'
   keeps 'a build goes on where it stopped' '--build ci' '0 pub fn two() {}\n\n'
-  keeps 'the gate takes nothing from a build' ci 'proving and searching, llvm two\n0 pub fn two() {}\n\n'
+  keeps 'the gate takes nothing from a build' ci 'proving and searching\n0 pub fn two() {}\n\n'
   printf 'another kit\n' >"$first/KIT-ID"
-  keeps 'a proof by another kit' ci 'proving and searching, llvm two\n0 pub fn two() {}\n\n'
-  keeps 'no room to keep a proof' ci 'proving and searching, llvm two\n0 pub fn two() {}\n\n' "$first/KIT-ID"
+  keeps 'a proof by another kit' ci 'proving and searching\n0 pub fn two() {}\n\n'
+  keeps 'no room to keep a proof' ci 'proving and searching\n0 pub fn two() {}\n\n' "$first/KIT-ID"
 
   cat >"$first/bin/rt" <<SCRIPT
 #!$python
 import os, sys, types
 BACKENDS = {"llvm": "", "two": ".two"}
+KIT = "kit"
 STORE = "$first/rattle-kept"
 class Kept:
     def __init__(self): self.at = STORE
@@ -154,30 +156,39 @@ class Kept:
         os.makedirs(self.at, exist_ok=True)
         open(f"{self.at}/{key}", "w").close()
 class Crate:
-    made, is_program = [], os.path.exists("$first/is_program")
+    name, made, is_program = "low", [], os.path.exists("$first/is_program")
     def below(self): return []
     def stamp(self): return "sum"
+    def words(self, flags, keeps): return [self.name, *flags]
+    def prove(self, words): return print(*words) or 0
+    def link(self, made, program): return print("link", made, program) or 0
     def compile_by(self, backend, words, to): return self.made.append(backend) or 0
-    def ci(self):
+    def ci(self, flags, tests):
         searching = "--empty-contracts" in rtlib.help_of("check")
-        self.compile_by("llvm", [], "out") or self.compile_by("two", [], "out")
-        print("proving and searching," if searching else "proving,", *sorted(self.made), *sorted(BACKENDS))
+        self.is_program and (self.compile_by("llvm", [], "out") or self.compile_by("two", [], "out"))
+        return print("proving and searching" if searching else "proving", *sorted(self.made), *sorted(BACKENDS)) or 0
 rtlib = types.SimpleNamespace(Crate=Crate, help_of=lambda command: "--empty-contracts")
 # all are methods of rtlib.Crate
 def in_lanes(tasks): return tasks
 def main(words):
-    kept = Kept()
-    print("given") if kept.give(Crate(), False, "low") else kept.keep(Crate().ci() or "low")
+    kept, proof, tests = Kept(), ("low", "proof"), ("low", "tests")
+    print("given") if kept.give(Crate(), False, "low") else kept.keep(Crate().ci(["--jobs", "4"], False) or "low")
+    os.chdir("$first")
+    print(in_lanes({proof: ([], 5, 9), tests: ([], 0, 9), ("edit", "edits"): ([proof, tests], 5, 9)}))
     return 4
 if __name__ == "__main__":
     sys.exit(main(sys.argv[1:]))
 SCRIPT
+  # a build counts lines of code, of which low has one, and waits for no tests where there are none
+  of_build="{('low', 'proof'): ([], 101, 9), ('edit', 'edits'): ([('low', 'proof')], 100, 9), ('low', 'tests'): True}\n"
+  of_gate="{('low', 'proof'): ([], 105, 9), ('low', 'tests'): ([], 0, 9), ('edit', 'edits'): ([('low', 'proof'), ('low', 'tests')], 105, 9)}\n"
   rm -rf "$first/cache"
-  keeps 'a build by a kit that keeps proofs' '--build ci' 'proving, llvm llvm\n'
-  keeps 'such a build goes on where it stopped' '--build ci' 'given\n'
-  keeps 'the gate of such a kit takes nothing from a build' ci 'proving and searching, llvm two llvm two\n'
+  keeps 'a build by a kit that keeps proofs' '--build ci' "proving llvm\n$of_build"
+  keeps 'such a build goes on where it stopped' '--build ci' "given\n$of_build"
+  keeps 'the gate of such a kit takes nothing from a build' ci "proving and searching llvm two\n$of_gate"
   rm -rf "$first/cache"
-  keeps 'such a build takes what the gate kept' '--build ci' 'given\n'
+  keeps 'such a build takes what the gate kept' '--build ci' "given\n$of_build"
   : >"$first/is_program"
-  keeps 'such a build leaves the program of the gate where it is' '--build ci' 'proving, llvm llvm\n'
+  keeps 'such a build makes the program in one step, and leaves that of the gate where it is' '--build ci' \
+    "build low --jobs 4 --toolchain kit/toolchain --backend llvm -o out/low.o\nlink out/low.o out/low\n$of_build"
 fi
