@@ -11,3 +11,4 @@ pub mod CaseFacts
 pub mod StockFacts
 pub mod Standing
 pub mod FamilyFacts
+pub mod ShopCounts

@@ -9,7 +9,7 @@ use Rattle.std.proofs.lemmas.List.FromFn.{fill_by_all}
 use Rattle.std.proofs.lemmas.List.Folds.{fold-map}
 use Rattle.std.proofs.lemmas.List.Sums.{length-filter, count_by_more_yes, count_by_more_no}
 use Rattle.std.proofs.lemmas.List.Quantifiers.{position-Some}
-use Rattle.std.proofs.lemmas.Bool.{cases_Bool, cases_eq, leb-false, lt-leb, le-leb, false≢true}
+use Rattle.std.proofs.lemmas.Bool.{cases_Bool, cases_eq, leb-false, false≢true}
 use Rattle.std.proofs.lemmas.Slice.Eq.{bytes_eq-Decides}
 use Rattle.spares_input.specs.First.{first}
 use Rattle.spares_input.specs.Rows.{is_line, no_part, no_site}
@@ -64,20 +64,6 @@ site_named sites name s h =
     let at = named_at (site_names sites) name s h in
     let within : s < length sites = omega (arith, at.0, length-map sites (λ (x : SiteRow). x.name)) in
     (within, sym (at.1 ∙ get_or-map (λ (x : SiteRow). x.name) sites s no_site [] within))
-
--- a shop unit before which its line unit has 8 breaks the rule of their number
-pub shop_fault_many : (parts : List PartRow) (k l : ℕ) (r : PartRow) (n : ℕ) → r ≡ part_at parts l → is_line r ≡ true
-    → n ≡ count_by (is_shop_of r) (take k parts) → 8 ≤ n → shop_fault parts k (Some l) ≡ Some (fault.TooManyShopUnits (k + 2))
-shop_fault_many parts k l r n row line count many =
-    let full : nat_le 8 (count_by (is_shop_of r) (take k parts)) ≡ true = le-leb 8 (count_by (is_shop_of r) (take k parts)) (omega (arith, count, many)) in
-    rw (← row, line, full) refl
-
--- a shop unit of a line unit that has fewer than 8 before it breaks no rule
-pub shop_fault_none : (parts : List PartRow) (k l : ℕ) (r : PartRow) (n : ℕ) → r ≡ part_at parts l → is_line r ≡ true
-    → n ≡ count_by (is_shop_of r) (take k parts) → n < 8 → shop_fault parts k (Some l) ≡ None
-shop_fault_none parts k l r n row line count few =
-    let free : nat_le 8 (count_by (is_shop_of r) (take k parts)) ≡ false = lt-leb 8 (count_by (is_shop_of r) (take k parts)) (omega (arith, count, few)) in
-    rw (← row, line, free) refl
 
 shop_rules : {A : Type 0} (a b : Bool) (x y : A) → (if not a then Some x else if b then Some y else None) ≡ None → (a ≡ true) × (b ≡ false)
 shop_rules false b x y h = cc

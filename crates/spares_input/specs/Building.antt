@@ -1,12 +1,12 @@
 -- Facts about the rows between the steps of a build. No promise of the crate rests on these words.
-use Rattle.std.specs.Prelude.{◌≡◌, ℕ, ◌<◌, List, [], ◌∷◌, length, map, slice_get, Option, Some, None, is_some, Result, Ok, Err, if◌then◌else◌, position, bytes_eq, get_or, ⊤}
+use Rattle.std.specs.Prelude.{◌≡◌, ℕ, ◌<◌, List, [], ◌∷◌, length, take, map, slice_get, Option, Some, None, is_some, Result, Ok, Err, if◌then◌else◌, position, bytes_eq, get_or, count_by, ⊤}
 use Rattle.answers.specs.declared.stop.Stop.{Stop}
 use Rattle.answers.specs.declared.stop.Stop.TheVariants as stop
 use Rattle.std.specs.List.{IsDistinct}
 use Rattle.std.specs.List.{remove}
 use Rattle.std.specs.HashMap.{HashMap, get}
 use Rattle.std.specs.Option.{option_flatten, option_map, option_map_or}
-use Rattle.spares_input.specs.Frames.{part_names, place_of, line_of, frame_fault, line_units, family_of_line, shops_below, is_depot}
+use Rattle.spares_input.specs.Frames.{part_at, part_names, is_shop_of, place_of, line_of, frame_fault, line_units, family_of_line, shops_below, is_depot}
 use Rattle.spares_input.specs.Pairs.{row_at, part_of_place, site_of_place}
 use Rattle.spares_input.specs.declared.rows.SiteRow.{SiteRow}
 use Rattle.spares_input.specs.declared.rows.PartRow.{PartRow}
@@ -46,6 +46,11 @@ pub record IsNumbered (sites : List SiteRow) (parts : List PartRow) (depot : ℕ
 pub record AreParents (parts : List PartRow) (parents : List (Option PartId)) : Type 0 where
   pub whole : length parents ≡ length parts
   pub each : (p : ℕ) → p < length parts → option_map (λ line. line.0) (get_or parents p None) ≡ line_of parts p
+
+-- each part's number of shop units among the first k parts
+pub record AreCounts (parts : List PartRow) (k : ℕ) (counts : List ℕ) : Type 0 where
+  pub whole : length counts ≡ length parts
+  pub each : (l : ℕ) → l < length parts → get_or counts l 0 ≡ count_by (is_shop_of (part_at parts l)) (take k parts)
 
 -- the numbers of these parts
 abbrev pub ids : List PartId → List ℕ

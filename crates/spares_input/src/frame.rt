@@ -1,6 +1,6 @@
 //! The frame of a case: its sites and its parts.
 
-ghost use Rattle.std.specs.Prelude.{◌≡◌, ◌==◌, ◌+◌, ◌≤◌, ◌<◌, true, length, map, position, count_by, All, Some, None, IfSome, IfOk, OnOk, MatchResult, is_none, vec_len, bytes_eq};
+ghost use Rattle.std.specs.Prelude.{◌≡◌, ◌==◌, ◌+◌, ◌≤◌, ◌<◌, true, length, map, position, All, Some, None, IfSome, IfOk, OnOk, MatchResult, is_none, vec_len, bytes_eq};
 ghost use Rattle.std.specs.List.{list_any};
 ghost use Rattle.std.specs.Option.{option_map, option_and_then};
 ghost use Rattle.std.specs.HashMap.{Updates, get};
@@ -8,9 +8,9 @@ ghost use Rattle.answers.specs.Answers.{Gives};
 ghost use Rattle.spares_input.specs.First.{first};
 ghost use Rattle.spares_input.specs.Limits.{most_sites, most_parts, most_stock};
 ghost use Rattle.spares_input.specs.Rows.{is_line, IsSiteRow, IsPartRow};
-ghost use Rattle.spares_input.specs.Frames.{site_at, part_at, site_names, part_names, place_of, line_of, is_shop_of, is_depot, is_base, site_fault, kinds_fault, double_part, shop_fault, parent_fault, frame_fault, frame_of, line_units, family_of_line, IsFrame};
+ghost use Rattle.spares_input.specs.Frames.{site_at, part_at, site_names, part_names, place_of, line_of, is_depot, is_base, site_fault, kinds_fault, double_part, shop_fault, parent_fault, frame_fault, frame_of, line_units, family_of_line, IsFrame};
 ghost use Rattle.spares_input.specs.Stocks.{limit_at};
-ghost use Rattle.spares_input.specs.Building.{AreLinked, AreParents, ArePlaces, AreDistinct, IsNumbered, StopsAt, ids, to_front};
+ghost use Rattle.spares_input.specs.Building.{AreCounts, AreLinked, AreParents, ArePlaces, AreDistinct, IsNumbered, StopsAt, ids, to_front};
 
 use crate::MOST_SHOP_UNITS;
 use crate::families::{families_of, line_units_of};
@@ -253,7 +253,7 @@ fn number_rows(
         Err(fault) => return Err(Stop::Fault(fault)),
     };
     let places = places_of(alloc, parts)?;
-    if let Some(fault) = parents_fault(&places, parts) {
+    if let Some(fault) = parents_fault(alloc, &places, parts)? {
         return Err(Stop::Fault(fault));
     }
     Ok((places, depot))
@@ -421,67 +421,74 @@ fn parent_of(places: &HashMap<Name, PartId>, part: &PartRow) -> Option<PartId>
 }
 
 /// The first rule that a row breaks by its parent.
-fn parents_fault(places: &HashMap<Name, PartId>, parts: &[PartRow]) -> Option<CaseFault>
+fn parents_fault(
+    alloc: Global,
+    places: &HashMap<Name, PartId>,
+    parts: &[PartRow],
+) -> Result<Option<CaseFault>, NoMemory>
     requires few { length parts.now ≤ most_parts }
+    requires distinct { AreDistinct parts.now }
     requires placed { ArePlaces places.now parts.now }
-    ensures { result ≡ first (parent_fault parts.now) (length parts.now) }
+    ensures { IfOk result (λ fault. fault ≡ first (parent_fault parts.now) (length parts.now)) }
 {
+    let mut counts = vec![in alloc; 0; parts.len()]?;
     for k in 0..parts.len() {
-        if let Some(fault) = parent_fault(places, parts, k) {
-            return Some(fault);
+        if let Some(fault) = parent_fault(places, parts, counts.as_mut_slice(), k) {
+            return Ok(Some(fault));
         }
     }
-    None
+    Ok(None)
 }
 
-/// The rule that row k breaks by its parent.
-fn parent_fault(places: &HashMap<Name, PartId>, parts: &[PartRow], k: usize) -> Option<CaseFault>
+/// The rule that row k breaks by its parent. A shop unit that breaks none is counted.
+fn parent_fault(
+    places: &HashMap<Name, PartId>,
+    parts: &[PartRow],
+    counts: &mut [u8],
+    k: usize,
+) -> Option<CaseFault>
     requires few { length parts.now ≤ most_parts }
     requires within { k < length parts.now }
+    requires distinct { AreDistinct parts.now }
     requires placed { ArePlaces places.now parts.now }
-    ensures { result ≡ parent_fault parts.now k }
+    requires counts { AreCounts parts.now k counts.old }
+    ensures fault { result ≡ parent_fault parts.now k }
+    ensures counted { result ≡ None → AreCounts parts.now (k + 1) counts.new }
 {
     let part = parts[k];
     match part.parent {
-        Some(line) => shop_fault(parts, k, place_among(places, &line)),
+        Some(line) => shop_fault(parts, counts, k, place_among(places, &line)),
         None => None,
     }
 }
 
-/// The rule that row k breaks as a shop unit; `line` is its parent's place, or None if no part has that name.
-fn shop_fault(parts: &[PartRow], k: usize, line: Option<PartId>) -> Option<CaseFault>
+/// The rule that row k breaks as a shop unit; `line` is its parent's place, or None if no part has that name. If it
+/// breaks none, it is counted at that place.
+fn shop_fault(
+    parts: &[PartRow],
+    counts: &mut [u8],
+    k: usize,
+    line: Option<PartId>,
+) -> Option<CaseFault>
     requires few { length parts.now ≤ most_parts }
     requires within { k < length parts.now }
-    requires line { IfSome line (λ l. l.0 < length parts.now) }
-    ensures { result ≡ shop_fault parts.now k (option_map (λ l. l.0) line) }
+    requires distinct { AreDistinct parts.now }
+    requires line { option_map (λ l. l.0) line ≡ line_of parts.now k }
+    requires counts { AreCounts parts.now k counts.old }
+    ensures fault { result ≡ shop_fault parts.now k (line_of parts.now k) }
+    ensures counted { result ≡ None → AreCounts parts.now (k + 1) counts.new }
 {
     let row = k as u32 + 2;
     let Some(place) = line else {
         return Some(CaseFault::UnknownParent(row));
     };
-    let line = parts[place.0 as usize];
-    if line.parent.is_some() {
+    let line = place.0 as usize;
+    if parts[line].parent.is_some() {
         return Some(CaseFault::ParentNotLine(row));
     }
-    if count_shop_units(&line, &parts[..k]) >= MOST_SHOP_UNITS {
+    if counts[line] as usize >= MOST_SHOP_UNITS {
         return Some(CaseFault::TooManyShopUnits(row));
     }
+    counts[line] += 1;
     None
-}
-
-/// The number of these rows that are shop units of this line unit.
-fn count_shop_units(line: &PartRow, parts: &[PartRow]) -> usize
-    ensures { result ≡ count_by (is_shop_of line.now) parts.now }
-{
-    parts.iter().filter(|part| is_shop_of(line, part)).count()
-}
-
-/// Whether a row is a shop unit of this line unit.
-fn is_shop_of(line: &PartRow, part: &PartRow) -> bool
-    ensures { result ≡ is_shop_of line.now part.now }
-{
-    match part.parent {
-        Some(parent) => line.name == parent,
-        None => false,
-    }
 }
