@@ -1,11 +1,11 @@
 //! The chain of a curve joined with further points.
 
-ghost use Rattle.std.specs.Prelude.{◌≡◌, ◌+◌, ◌<◌, ◌≤◌, [], ◌++◌, map, MatchOption, vec_len, vec_capacity};
+ghost use Rattle.std.specs.Prelude.{◌≡◌, ◌+◌, ◌<◌, ◌≤◌, [], ◌∷◌, ◌++◌, map, IsTrue, MatchOption, vec_len, vec_capacity};
 ghost use Rattle.std.specs.List.Sorted.{IsNonDecreasingBy};
 ghost use Rattle.std.specs.VecDeque.{deque_len};
 ghost use Rattle.hull.specs.declared.point.Point.{Point};
 ghost use Rattle.hull.specs.Curves.{Among, StandFor, IsChain, InRange};
-ghost use Rattle.hull.specs.Verdicts.{TakesCheaper};
+ghost use Rattle.hull.specs.Verdicts.{IsLastOf, TakesCheaper};
 
 use crate::scan::{goes_on, grow, scan};
 use crate::{Point, Spot};
@@ -29,6 +29,36 @@ fn take_cheaper<T: Spot>(left: &mut VecDeque<T>, right: &mut VecDeque<T>) -> Opt
     }
 }
 
+/// Adds a point that costs no less than the last of a chain, as [`grow`] does. It stands apart, so that its
+/// instructions, which all that joins chains runs through, come once.
+#[inline(never)]
+fn grow_apart<T: Spot>(stack: &mut Vec<T>, point: T) -> bool
+    requires room { vec_len stack.old < vec_capacity stack.old }
+    requires chain { IsChain (map T.point stack.old.items) }
+    requires order { (v : Point) → Among v (map T.point stack.old.items) → v.cost ≤ (T.point point).cost }
+    requires ranges { (v : Point) → Among v (map T.point stack.old.items) → InRange v }
+    requires range { InRange (T.point point) }
+    ensures chain { IsChain (map T.point stack.new.items) }
+    ensures stands { StandFor (map T.point stack.old.items ++ T.point point ∷ []) (map T.point stack.new.items) }
+    ensures some { 0 < vec_len stack.new }
+    ensures len { vec_len stack.new ≤ vec_len stack.old + 1 }
+    ensures capacity { vec_capacity stack.old ≤ vec_capacity stack.new }
+    ensures last { IsTrue result → IsLastOf (T.point point) (map T.point stack.new.items) }
+{
+    grow(stack, point)
+}
+
+/// Appends all points of `left` to `stack`.
+fn with_all<T: Spot>(mut stack: Vec<T>, mut left: VecDeque<T>) -> Vec<T>
+    requires { vec_len stack + deque_len left ≤ vec_capacity stack }
+    ensures { result.items ≡ stack.items ++ left.items }
+{
+    while let Some(point) = left.pop_front() {
+        let _ = stack.push(point);
+    }
+    stack
+}
+
 /// Appends the points of the chain `left` to the chain `stack`. As soon as two in turn can be appended, so can all
 /// after them.
 fn with_rest<T: Spot>(mut stack: Vec<T>, mut left: VecDeque<T>) -> Vec<T>
@@ -48,11 +78,9 @@ fn with_rest<T: Spot>(mut stack: Vec<T>, mut left: VecDeque<T>) -> Vec<T>
     while let Some(point) = left.pop_front() {
         if follows && goes_on(stack.as_slice(), &point) {
             let _ = stack.push(point);
-            let mut rest = left.into_vec();
-            let _ = stack.append(&mut rest);
-            return stack;
+            return with_all(stack, left);
         }
-        follows = grow(&mut stack, point);
+        follows = grow_apart(&mut stack, point);
     }
     stack
 }
@@ -77,7 +105,7 @@ fn scan_both<T: Spot>(mut stack: Vec<T>, left: Vec<T>, right: Vec<T>) -> Vec<T>
     let mut left = VecDeque::from_vec(left);
     let mut right = VecDeque::from_vec(right);
     while let Some(point) = take_cheaper(&mut left, &mut right) {
-        grow(&mut stack, point);
+        grow_apart(&mut stack, point);
     }
     with_rest(stack, left)
 }

@@ -39,8 +39,8 @@ loop-point-init g c =
       some = inr (omega (arith, lr, lre, some));
     }
 
-pub grow-requires-clause-order : goal.grow-requires-clause-order
-grow-requires-clause-order g c =
+pub grow_apart-requires-clause-order : goal.grow_apart-requires-clause-order
+grow_apart-requires-clause-order g c =
     let f = g.T.Spot.point in
     let j = c.loop-point.invariant.joined in
     let l = c.loop-point.left.items in
@@ -48,8 +48,8 @@ grow-requires-clause-order g c =
     joined_order (map f c.args.stack.items ++ (map f c.args.left.items ++ map f c.args.right.items)) (map f c.loop-point.stack.items) (f c.in-Some.point) (map f l) (map f r) (map f c.take_cheaper.new.left.items) (map f c.take_cheaper.new.right.items) j
     (takes_mapped f c.in-Some.point l r c.take_cheaper.new.left.items c.take_cheaper.new.right.items j.left_rises j.right_rises c.in-Some.ensures)
 
-pub grow-requires-clause-ranges : goal.grow-requires-clause-ranges
-grow-requires-clause-ranges g c =
+pub grow_apart-requires-clause-ranges : goal.grow_apart-requires-clause-ranges
+grow_apart-requires-clause-ranges g c =
     let f = g.T.Spot.point in
     let j = c.loop-point.invariant.joined in
     let l = c.loop-point.left.items in
@@ -57,8 +57,8 @@ grow-requires-clause-ranges g c =
     joined_ranges (map f c.args.stack.items ++ (map f c.args.left.items ++ map f c.args.right.items)) (map f c.loop-point.stack.items) (f c.in-Some.point) (map f l) (map f r) (map f c.take_cheaper.new.left.items) (map f c.take_cheaper.new.right.items) j
     (takes_mapped f c.in-Some.point l r c.take_cheaper.new.left.items c.take_cheaper.new.right.items j.left_rises j.right_rises c.in-Some.ensures)
 
-pub grow-requires-clause-range : goal.grow-requires-clause-range
-grow-requires-clause-range g c =
+pub grow_apart-requires-clause-range : goal.grow_apart-requires-clause-range
+grow_apart-requires-clause-range g c =
     let f = g.T.Spot.point in
     let j = c.loop-point.invariant.joined in
     let l = c.loop-point.left.items in
@@ -76,11 +76,11 @@ loop-point-preserved g c =
     record {
       joined = joined_goes (map f c.args.stack.items ++ (map f c.args.left.items ++ map f c.args.right.items)) (map f c.loop-point.stack.items) (f c.in-Some.point) (map f l) (map f r) (map f c.take_cheaper.new.left.items) (map f c.take_cheaper.new.right.items) j
           (takes_mapped f c.in-Some.point l r c.take_cheaper.new.left.items c.take_cheaper.new.right.items j.left_rises j.right_rises c.in-Some.ensures)
-          (map f c.grow.new.stack.items) c.grow.ensures.chain c.grow.ensures.stands;
+          (map f c.grow_apart.new.stack.items) c.grow_apart.ensures.chain c.grow_apart.ensures.stands;
       left_chain = taken_chain f c.in-Some.point l r c.take_cheaper.new.left.items c.take_cheaper.new.right.items (λ v. (f v).cost) c.in-Some.ensures c.loop-point.invariant.left_chain;
-      room = (let a = c.loop-point.invariant.room in let b = c.grow.ensures.len in omega (arith, fewer, a, b));
-      capacity = (let a = c.loop-point.invariant.capacity in let b = c.grow.ensures.capacity in omega (arith, a, b));
-      some = inl c.grow.ensures.some;
+      room = (let a = c.loop-point.invariant.room in let b = c.grow_apart.ensures.len in omega (arith, fewer, a, b));
+      capacity = (let a = c.loop-point.invariant.capacity in let b = c.grow_apart.ensures.capacity in omega (arith, a, b));
+      some = inl c.grow_apart.ensures.some;
     }
 
 module _ (points stack left right : List Point) (j : Joined points stack left right) (none : right ≡ []) where
@@ -123,8 +123,8 @@ returns-clause-stands g c =
     stand_trans all (map f c.loop-point.stack.items ++ map f c.take_cheaper.new.left.items) (map f c.with_rest.result.items)
     (subst (λ l. StandFor all (map f c.loop-point.stack.items ++ map f l)) (sym e.0) stands) c.with_rest.ensures.stands
 
-pub grow-requires-clause-chain : goal.grow-requires-clause-chain
-grow-requires-clause-chain g c = c.loop-point.invariant.joined.chain
+pub grow_apart-requires-clause-chain : goal.grow_apart-requires-clause-chain
+grow_apart-requires-clause-chain g c = c.loop-point.invariant.joined.chain
 
 pub with_rest-requires-clause-chain : goal.with_rest-requires-clause-chain
 with_rest-requires-clause-chain g c = c.loop-point.invariant.joined.chain
@@ -141,8 +141,8 @@ returns-clause-chain g c = c.with_rest.ensures.chain
 pub returns-clause-some : goal.returns-clause-some
 returns-clause-some g c = c.with_rest.ensures.some
 
-pub grow-requires-clause-room : goal.grow-requires-clause-room
-grow-requires-clause-room g c =
+pub grow_apart-requires-clause-room : goal.grow_apart-requires-clause-room
+grow_apart-requires-clause-room g c =
     let fewer = taken_length c.in-Some.point c.loop-point.left.items c.loop-point.right.items c.take_cheaper.new.left.items c.take_cheaper.new.right.items (λ v. (g.T.Spot.point v).cost) c.in-Some.ensures in
     let room = c.loop-point.invariant.room in
     let capacity = c.loop-point.invariant.capacity in

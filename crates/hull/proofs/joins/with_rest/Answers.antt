@@ -1,5 +1,5 @@
 -- What is left of the chain is all that is still to come.
-use Rattle.std.proofs.Common.{◌≡◌, ℕ, suc, ◌+◌, ◌<◌, ◌≤◌, List, [], ◌∷◌, ◌++◌, map, length, refl, sym, ap, ap₂, ◌∙◌, subst, arith, rules, le_refl, le_trans, vec_capacity, vec_len}
+use Rattle.std.proofs.Common.{◌≡◌, ℕ, suc, ◌+◌, ◌<◌, ◌≤◌, List, [], ◌∷◌, ◌++◌, map, length, refl, sym, ap, ◌∙◌, subst, arith, rules, le_refl, le_trans, vec_capacity, vec_len}
 use Rattle.std.proofs.lemmas.Bool.{false≢true}
 use Rattle.std.proofs.lemmas.List.{append-nil, map-append}
 use Rattle.hull.specs.declared.point.Point.{Point}
@@ -84,16 +84,16 @@ pub goes_on-requires-clause-range : goal.goes_on-requires-clause-range
 goes_on-requires-clause-range g c =
     range g.T.Spot.point (map g.T.Spot.point c.args.stack.items ++ map g.T.Spot.point c.args.left.items) c.loop-point.stack.items c.loop-point.left.items c.pop_front.new.self.items c.in-Some.point c.in-Some.ensures.items c.loop-point.invariant.joined
 
-pub grow-follows-requires-clause-order : goal.grow-follows-requires-clause-order
-grow-follows-requires-clause-order g c =
+pub grow_apart-follows-requires-clause-order : goal.grow_apart-follows-requires-clause-order
+grow_apart-follows-requires-clause-order g c =
     order g.T.Spot.point (map g.T.Spot.point c.args.stack.items ++ map g.T.Spot.point c.args.left.items) c.loop-point.stack.items c.loop-point.left.items c.pop_front.new.self.items c.in-Some.point c.in-Some.ensures.items c.loop-point.invariant.joined
 
-pub grow-follows-requires-clause-ranges : goal.grow-follows-requires-clause-ranges
-grow-follows-requires-clause-ranges g c =
+pub grow_apart-follows-requires-clause-ranges : goal.grow_apart-follows-requires-clause-ranges
+grow_apart-follows-requires-clause-ranges g c =
     ranges g.T.Spot.point (map g.T.Spot.point c.args.stack.items ++ map g.T.Spot.point c.args.left.items) c.loop-point.stack.items c.loop-point.left.items c.pop_front.new.self.items c.in-Some.point c.in-Some.ensures.items c.loop-point.invariant.joined
 
-pub grow-follows-requires-clause-range : goal.grow-follows-requires-clause-range
-grow-follows-requires-clause-range g c =
+pub grow_apart-follows-requires-clause-range : goal.grow_apart-follows-requires-clause-range
+grow_apart-follows-requires-clause-range g c =
     range g.T.Spot.point (map g.T.Spot.point c.args.stack.items ++ map g.T.Spot.point c.args.left.items) c.loop-point.stack.items c.loop-point.left.items c.pop_front.new.self.items c.in-Some.point c.in-Some.ensures.items c.loop-point.invariant.joined
 
 pub loop-point-preserved : goal.loop-point-preserved
@@ -104,12 +104,12 @@ loop-point-preserved g c =
     let fewer = ap length is in
     let here : IsChain (f c.in-Some.point ∷ map f c.pop_front.new.self.items) = subst (λ l. IsChain (map f l)) is i.left_chain in
     record {
-      joined = goes f (map f c.args.stack.items ++ map f c.args.left.items) c.loop-point.stack.items c.loop-point.left.items c.pop_front.new.self.items c.in-Some.point is i.joined c.grow-follows.new.stack.items c.grow-follows.ensures.chain c.grow-follows.ensures.stands;
+      joined = goes f (map f c.args.stack.items ++ map f c.args.left.items) c.loop-point.stack.items c.loop-point.left.items c.pop_front.new.self.items c.in-Some.point is i.joined c.grow_apart-follows.new.stack.items c.grow_apart-follows.ensures.chain c.grow_apart-follows.ensures.stands;
       left_chain = chain_rest (f c.in-Some.point) (map f c.pop_front.new.self.items) here;
-      follows = λ h. (let l = c.grow-follows.ensures.last h in record { front = l.0; last = f c.in-Some.point; is = l.1; chain = here });
-      room = all_room _ _ _ _ _ fewer i.room c.grow-follows.ensures.len;
-      capacity = le_trans i.capacity c.grow-follows.ensures.capacity;
-      some = c.grow-follows.ensures.some;
+      follows = λ h. (let l = c.grow_apart-follows.ensures.last h in record { front = l.0; last = f c.in-Some.point; is = l.1; chain = here });
+      room = all_room _ _ _ _ _ fewer i.room c.grow_apart-follows.ensures.len;
+      capacity = le_trans i.capacity c.grow_apart-follows.ensures.capacity;
+      some = c.grow_apart-follows.ensures.some;
     }
 
 pub returns-then-goes_on-clause-chain : goal.returns-then-goes_on-clause-chain
@@ -120,9 +120,8 @@ returns-then-goes_on-clause-chain g c =
     let x = c.in-Some.point in
     let rest = c.pop_front.new.self.items in
     let pushed : c.push.new.self.items ≡ stack ++ x ∷ [] = search rules in
-    let appended : c.append.new.self.items ≡ c.push.new.self.items ++ c.into_vec-rest.result.items = search rules in
-    let made : c.append.new.self.items ≡ (stack ++ x ∷ []) ++ rest = appended ∙ ap₂ (λ (a b : List _). a ++ b) pushed c.into_vec-rest.ensures.items in
-    all_chain f (map f c.args.stack.items ++ map f c.args.left.items) stack c.loop-point.left.items rest x c.in-Some.ensures.items i.joined c.append.new.self.items made
+    let made : c.with_all.result.items ≡ (stack ++ x ∷ []) ++ rest = c.with_all.ensures ∙ ap (λ (a : List _). a ++ rest) pushed in
+    all_chain f (map f c.args.stack.items ++ map f c.args.left.items) stack c.loop-point.left.items rest x c.in-Some.ensures.items i.joined c.with_all.result.items made
     (i.follows c.if-follows.true)
     (subst (λ s. IsChain (map f s ++ f x ∷ [])) c.as_slice.ensures.value (c.goes_on.ensures c.if-goes_on.true))
 
@@ -133,15 +132,14 @@ returns-then-goes_on-clause-stands g c =
     let x = c.in-Some.point in
     let rest = c.pop_front.new.self.items in
     let pushed : c.push.new.self.items ≡ stack ++ x ∷ [] = search rules in
-    let appended : c.append.new.self.items ≡ c.push.new.self.items ++ c.into_vec-rest.result.items = search rules in
-    let made : c.append.new.self.items ≡ (stack ++ x ∷ []) ++ rest = appended ∙ ap₂ (λ (a b : List _). a ++ b) pushed c.into_vec-rest.ensures.items in
-    all_stand f (map f c.args.stack.items ++ map f c.args.left.items) stack c.loop-point.left.items rest x c.in-Some.ensures.items c.loop-point.invariant.joined c.append.new.self.items made
+    let made : c.with_all.result.items ≡ (stack ++ x ∷ []) ++ rest = c.with_all.ensures ∙ ap (λ (a : List _). a ++ rest) pushed in
+    all_stand f (map f c.args.stack.items ++ map f c.args.left.items) stack c.loop-point.left.items rest x c.in-Some.ensures.items c.loop-point.invariant.joined c.with_all.result.items made
 
 pub goes_on-requires-clause-chain : goal.goes_on-requires-clause-chain
 goes_on-requires-clause-chain g c = subst (λ s. IsChain (map g.T.Spot.point s)) (sym c.as_slice.ensures.value) c.loop-point.invariant.joined.chain
 
-pub grow-follows-requires-clause-room : goal.grow-follows-requires-clause-room
-grow-follows-requires-clause-room g c =
+pub grow_apart-follows-requires-clause-room : goal.grow_apart-follows-requires-clause-room
+grow_apart-follows-requires-clause-room g c =
     some_room _ _ _ _ _ (ap length c.in-Some.ensures.items) c.loop-point.invariant.room c.loop-point.invariant.capacity
 
 pub loop-point-smaller : goal.loop-point-smaller
