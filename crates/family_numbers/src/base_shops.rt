@@ -9,6 +9,7 @@ use crate::numbers::Numbers;
 use crate::pair_tables::{base_shop_table, feed_from};
 use answers::{List, NoMemory};
 use moment_table::kinds::Table;
+use series_bounds::short::Iv64;
 use spares_input::SiteId;
 use std::alloc::Global;
 
@@ -21,9 +22,11 @@ pub struct BaseShops<const F: u32> {
     tables: List<List<List<Table<F>>>>,
 }
 
-/// The tables of a shop unit at a base, for its stocks at the depot from `low` to `high`; `depot` is its table there.
+/// The tables of a shop unit at a base, for its stocks at the depot from `low` to `high`; `depot` is its table there,
+/// and `weights` a scratch list.
 fn by_stock<const F: u32>(
     alloc: Global,
+    weights: &mut Vec<Iv64<F>>,
     numbers: &Numbers<F>,
     depot: &Table<F>,
     shop: usize,
@@ -43,16 +46,17 @@ fn by_stock<const F: u32>(
     for s in low..high + 1 {
         let pair = numbers.pair(shop + 1, site.0);
         let feed = feed_from(pair.share, depot, s);
-        let table = base_shop_table(alloc, pair, feed)?;
+        let table = base_shop_table(alloc, weights, pair, feed)?;
         made.push(table)?;
     }
     Ok(List::of(made))
 }
 
 /// The tables of the shop units at a base, for their stocks at the depot from `low` to `high`; `depot` are their tables
-/// there.
+/// there, and `weights` is a scratch list.
 fn by_shop<const F: u32>(
     alloc: Global,
+    weights: &mut Vec<Iv64<F>>,
     numbers: &Numbers<F>,
     depot: &[Table<F>],
     site: SiteId,
@@ -66,7 +70,7 @@ fn by_shop<const F: u32>(
 {
     let mut made = Vec::with_capacity(alloc, numbers.shops())?;
     for i in 0..numbers.shops() {
-        let tables = by_stock(alloc, numbers, &depot[i], i, site, low[i], high[i])?;
+        let tables = by_stock(alloc, weights, numbers, &depot[i], i, site, low[i], high[i])?;
         made.push(tables)?;
     }
     Ok(List::of(made))
@@ -85,9 +89,10 @@ impl<const F: u32> BaseShops<F> {
         requires bounds { AreShopBounds numbers.now low.now high.now }
         ensures { IfOk result (AreBaseShops F numbers.now low.now high.now) }
     {
+        let mut weights = Vec::new(alloc);
         let mut tables = Vec::with_capacity(alloc, usize::from(numbers.sites()))?;
         for j in 1..numbers.sites() {
-            let at_base = by_shop(alloc, numbers, depot, SiteId(j), low, high)?;
+            let at_base = by_shop(alloc, &mut weights, numbers, depot, SiteId(j), low, high)?;
             tables.push(at_base)?;
         }
         let mut least = Vec::new(alloc);

@@ -8,6 +8,7 @@ use crate::numbers::Numbers;
 use crate::pair_tables::{depot_line_table, depot_shop_table, feed_from};
 use answers::NoMemory;
 use depot_pipeline::Feed;
+use moment_table::ROOM_BESIDE;
 use moment_table::kinds::Table;
 use std::alloc::Global;
 
@@ -19,9 +20,10 @@ pub fn depot_shop_tables<const F: u32>(
     ensures { IfOk result (λ v. v.items ≡ map (λ i. depot_shop_table F numbers.now i) (shop_numbers numbers.now)) }
 {
     numbers.invariant();
+    let mut weights = Vec::new(alloc);
     let mut tables = Vec::with_capacity(alloc, numbers.shops())?;
     for i in 0..numbers.shops() {
-        let table = depot_shop_table(alloc, numbers.pair(i + 1, 0))?;
+        let table = depot_shop_table(alloc, &mut weights, numbers.pair(i + 1, 0))?;
         tables.push(table)?;
     }
     Ok(tables)
@@ -62,5 +64,7 @@ pub fn depot_line<const F: u32>(
 {
     numbers.invariant();
     let feeds = feeds_at(alloc, numbers, tables, depot)?;
-    depot_line_table(alloc, numbers.pair(0, 0), feeds.as_slice())
+    let pair = numbers.pair(0, 0);
+    let mut weights = Vec::with_capacity(alloc, usize::from(pair.limit) + ROOM_BESIDE)?;
+    depot_line_table(alloc, &mut weights, pair, feeds.as_slice())
 }

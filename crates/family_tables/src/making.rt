@@ -38,7 +38,8 @@ fn feed_at<const F: u32>(
     match kept_at(numbers, kept, shop + 1, SiteId(0), &[]) {
         Some(depot) => Ok(feed_from(share, &depot.table, stock)),
         None => {
-            let table = depot_shop_table(alloc, numbers.pair(shop + 1, 0))?;
+            let mut weights = Vec::new(alloc);
+            let table = depot_shop_table(alloc, &mut weights, numbers.pair(shop + 1, 0))?;
             Ok(feed_from(share, &table, stock))
         }
     }
@@ -105,7 +106,14 @@ fn made<const F: u32>(
     numbers.invariant();
     let pair = numbers.pair(key.place, key.site.0);
     let moments = pipeline_of(alloc, numbers, kept, &key)?;
-    let table = table_to(alloc, moments.mean, moments.variance, pair.limit)?;
+    let mut weights = Vec::new(alloc);
+    let table = table_to(
+        alloc,
+        &mut weights,
+        moments.mean,
+        moments.variance,
+        pair.limit,
+    )?;
     Ok(Kept {
         key,
         moments,

@@ -18,6 +18,7 @@ use crate::rows::{bare_row, known_row, rows_of};
 use crate::weighed::weigh;
 use answers::NoMemory;
 use fixed_interval::Iv;
+use series_bounds::short::Iv64;
 use std::alloc::Global;
 
 mod backorders;
@@ -33,6 +34,9 @@ pub use backorders::put_backorders;
 
 /// The last stock of a table.
 const LAST: u32 = 63;
+
+/// A scratch list of weights best has room for so many beyond those up to the limit: all up to the pivot are listed.
+pub const ROOM_BESIDE: usize = 4;
 
 /// The tables of the definitions enclose the model.
 pub fn tables_enclose()
@@ -56,14 +60,19 @@ pub fn table<const F: u32>(
     ensures stocks { IfOk result (λ t. length t.rows ≡ 64) }
     ensures most { IfOk result (λ t. (s : ℕ) → s < 64 → IsBelow F mean.entry variance.entry (at_stock t.rows s)) }
 {
-    let rows = rows_of(alloc, mean, variance, LAST, LAST)?;
+    let mut weights = Vec::with_capacity(alloc, LAST as usize + ROOM_BESIDE)?;
+    let rows = rows_of(alloc, &mut weights, mean, variance, LAST, LAST)?;
     Ok(Table::of(mean, variance, rows))
 }
 
 /// The same table, with backorders and variance stored at the stocks 0 to `limit` alone, at most 63, in 32 bytes for
 /// each. Other stocks are computed anew when they are asked for, which is slow. Want of memory is the only error.
+///
+/// `weights` is a scratch list, whose contents are unspecified afterwards. Its allocation is reused from call to call:
+/// where it has the room, only the table's own rows are allocated.
 pub fn table_to<const F: u32>(
     alloc: Global,
+    weights: &mut Vec<Iv64<F>>,
     mean: Iv<F>,
     variance: Iv<F>,
     limit: u8,
@@ -75,7 +84,7 @@ pub fn table_to<const F: u32>(
     ensures stocks { IfOk result (λ t. length t.rows ≡ 64) }
     ensures most { IfOk result (λ t. (s : ℕ) → s < 64 → IsBelow F mean.entry variance.entry (at_stock t.rows s)) }
 {
-    let rows = rows_of(alloc, mean, variance, u32::from(limit), 0)?;
+    let rows = rows_of(alloc, weights, mean, variance, u32::from(limit), 0)?;
     Ok(Table::of(mean, variance, rows))
 }
 

@@ -126,12 +126,11 @@ fn bare_to<const F: u32>(
     Ok(rows)
 }
 
-/// The room for weights beyond those of a table: all weights up to the pivot are listed.
-const ROOM_BESIDE: usize = 4;
-
-/// The rows of a pipeline's table at the stocks 0 to `last`, with the first tails.
+/// The rows of a pipeline's table at the stocks 0 to `last`, with the first tails. `weights` is a scratch list, whose
+/// contents are unspecified afterwards.
 pub(crate) fn rows_of<const F: u32>(
     alloc: Global,
+    weights: &mut Vec<Iv64<F>>,
     mean: Iv<F>,
     variance: Iv<F>,
     last: u32,
@@ -142,15 +141,8 @@ pub(crate) fn rows_of<const F: u32>(
     requires tails { tails ≤ last }
     ensures { IfOk result (HasRows F (at_stock (table_rows F mean.entry variance.entry)) (last + 1) tails) }
 {
-    let mut list = Vec::with_capacity(alloc, last as usize + ROOM_BESIDE)?;
-    match weigh_to(&mut list, mean, variance, last)? {
-        Some(sum) => {
-            let rows = known_to(alloc, mean, variance, list.as_slice(), sum, last, tails)?;
-            Ok(rows)
-        }
-        None => {
-            let rows = bare_to(alloc, mean, variance, last + 1, tails)?;
-            Ok(rows)
-        }
+    match weigh_to(weights, mean, variance, last)? {
+        Some(sum) => known_to(alloc, mean, variance, weights.as_slice(), sum, last, tails),
+        None => bare_to(alloc, mean, variance, last + 1, tails),
     }
 }

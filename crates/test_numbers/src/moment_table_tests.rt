@@ -145,7 +145,9 @@ fn all_show<const F: u32>(
 {
     assert!(rt; ends.len() == 6);
     shows(rt, &table(alloc, mean, variance)?, stock, ends)?;
-    shows(rt, &table_to(alloc, mean, variance, 10)?, stock, ends)?;
+    let mut weights = Vec::new(alloc);
+    let stored = table_to(alloc, &mut weights, mean, variance, 10)?;
+    shows(rt, &stored, stock, ends)?;
     let Row { ebo, vbo, tail } = row_at(alloc, mean, variance, stock)?;
     let found = [ebo.lo(), ebo.hi(), vbo.lo(), vbo.hi(), tail.lo(), tail.hi()];
     assert_eq!(rt; found.as_slice(), ends);

@@ -24,7 +24,7 @@ by_stock-requires g c =
     let bound = bound_of c.args.numbers.now c.args.low.now c.args.high.now c.requires.bounds c.loop-i.i inside in
     let depot = read_of (λ i. depot_shop_table g.row.F c.args.numbers.now i) (length c.args.numbers.now.parts - 1) c.loop-i.i c.args.depot.now c.index-depot-i.result
     c.requires.depot inside c.index-depot-i.is in
-    (lit< tt, (lit< tt, (depot, (inside, (c.requires.site, (bound.order, bound.most))))))
+    (lit< tt, (lit< tt, (lit< tt, (depot, (inside, (c.requires.site, (bound.order, bound.most)))))))
 
 pub loop-i-preserved : goal.loop-i-preserved
 loop-i-preserved g c =

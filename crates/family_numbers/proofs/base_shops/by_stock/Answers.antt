@@ -21,9 +21,12 @@ base_shop_table-requires g c =
         (
           lit< tt,
           (
-            c.pair-pair.ensures.valid,
-            feed_is_small g.row.F c.pair-pair.result.share _ c.feed_from-feed.result feed c.pair-pair.ensures.valid.share_most
-                (depot_shop_small g.row.F c.args.numbers.now c.invariant.ensures.valid c.args.shop c.loop-s.s c.requires.shop few),
+            lit< tt,
+            (
+              c.pair-pair.ensures.valid,
+              feed_is_small g.row.F c.pair-pair.result.share _ c.feed_from-feed.result feed c.pair-pair.ensures.valid.share_most
+                  (depot_shop_small g.row.F c.args.numbers.now c.invariant.ensures.valid c.args.shop c.loop-s.s c.requires.shop few),
+            ),
           ),
         ),
       ),

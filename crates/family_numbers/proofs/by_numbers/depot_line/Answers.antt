@@ -21,10 +21,13 @@ depot_line_table-requires g c =
         (
           lit< tt,
           (
-            c.pair.ensures.valid,
+            lit< tt,
             (
-              omega (arith, count, are.few),
-              subst (All (IsSmallFeed g.row.F)) (sym feeds) (depot_feeds_small g.row.F c.args.numbers.now are c.args.depot.now c.requires.stocks c.requires.count),
+              c.pair-pair.ensures.valid,
+              (
+                omega (arith, count, are.few),
+                subst (All (IsSmallFeed g.row.F)) (sym feeds) (depot_feeds_small g.row.F c.args.numbers.now are c.args.depot.now c.requires.stocks c.requires.count),
+              ),
             ),
           ),
         ),
@@ -35,4 +38,4 @@ pub returns : goal.returns
 returns g c =
     let feeds : c.as_slice.result.now ≡ depot_feeds g.row.F c.args.numbers.now c.args.depot.now = c.as_slice.ensures.value ∙ c.in_ok-feeds.ensures in
     IfOk-weaker c.depot_line_table.result _ _
-    (λ t h. h ∙ ap₂ (λ (w : PairNumbers g.row.F) (z : List (Feed g.row.F)). table_of g.row.F (depot_line_ends g.row.F w.direct w.cap z) w.limit) c.pair.ensures.is feeds) c.depot_line_table.ensures
+    (λ t h. h ∙ ap₂ (λ (w : PairNumbers g.row.F) (z : List (Feed g.row.F)). table_of g.row.F (depot_line_ends g.row.F w.direct w.cap z) w.limit) c.pair-pair.ensures.is feeds) c.depot_line_table.ensures

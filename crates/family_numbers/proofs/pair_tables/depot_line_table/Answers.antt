@@ -10,4 +10,4 @@ table_to-requires g c =
     let can : HasTable g.row.F c.depot_line-moments.result = rw c.depot_line-moments.ensures.ends
     (can_rows g.row.F c.args.pair _ _ c.requires.pair
     (added_least c.args.pair.direct (λ k. mean_part g.row.F (feed_at c.args.feeds.now k)) (length c.args.feeds.now))) in
-    (lit< tt, (lit< tt, (can, c.requires.pair.limit_most)))
+    (lit< tt, (lit< tt, (lit< tt, (can, c.requires.pair.limit_most))))
