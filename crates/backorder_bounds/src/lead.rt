@@ -108,7 +108,7 @@ fn squares_over(x: u8, den: u64) -> u64
     ensures ratio { result ≡ x * 2 ^ 72 / den }
     ensures most { result ≤ 16 * 2 ^ 36 }
 {
-    ((u128::from(x) << 72) / u128::from(den)) as u64
+    quotients::quotient(u128::from(x) << 72, u128::from(den)) as u64
 }
 
 /// The weight at the stock 0, from the pivot down. None if the weight may pass 8 or the ratios are too small.

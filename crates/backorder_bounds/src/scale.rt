@@ -5,6 +5,7 @@ ghost use Rattle.fixed_interval.specs.Ends.{IsInterval, IsWithinLimit};
 ghost use Rattle.backorder_bounds.specs.Coarse.{IsCoarse};
 
 use fixed_interval::Iv;
+use quotients::quotient;
 
 /// One whole, `2^36`.
 pub(crate) const UNIT: u64 = 68_719_476_736;
@@ -22,13 +23,12 @@ pub(crate) fn product(a: u64, b: u64) -> u64
 }
 
 /// The quotient, rounded down, or one whole if it is more.
-#[inline(always)]
 pub(crate) fn share(a: u64, b: u64) -> u64
     requires { 0 < b }
     ensures { result ≡ min (a * 2 ^ 36 / b) (2 ^ 36) }
 {
     let whole = u128::from(UNIT);
-    (u128::from(a) * whole / u128::from(b)).min(whole) as u64
+    quotient(u128::from(a) * whole, u128::from(b)).min(whole) as u64
 }
 
 /// The ends of an interval, rounded outwards.
