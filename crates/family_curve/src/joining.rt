@@ -380,24 +380,15 @@ fn work_of<'b>(alloc: Global, bases: &'b [Base]) -> Result<Work<'b>, NoMemory>
 }
 
 /// The curve of all vectors of the family of these sources within its bounds.
-fn curve_of<S: Score>(alloc: Global, sources: &Sources<'_>, score: &S) -> Result<Curve, NoMemory>
+pub(crate) fn family_curve<S: Score>(
+    alloc: Global,
+    sources: &Sources<'_>,
+    score: &S,
+) -> Result<Curve, NoMemory>
     requires sources { AreSources sources.now }
     requires room { vector_count sources.now.family.now 0 * vertex_count sources.now.family.now ≤ most_vertices }
     ensures { IfOk result (IsCurve (box_points S.ends sources.now.family.now)) }
 {
     let mut work = work_of(alloc, sources.bases.as_slice())?;
     whole_curve(alloc, &mut work, sources, score)
-}
-
-/// The curve of all vectors of a family within its bounds.
-pub(crate) fn family_curve<S: Score>(
-    alloc: Global,
-    family: &Family<'_>,
-    score: &S,
-) -> Result<Curve, NoMemory>
-    requires { vector_count family.now 0 * vertex_count family.now ≤ most_vertices }
-    ensures { IfOk result (IsCurve (box_points S.ends family.now)) }
-{
-    let sources = Sources::of(alloc, family)?;
-    curve_of(alloc, &sources, score)
 }

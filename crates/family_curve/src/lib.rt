@@ -15,11 +15,14 @@ ghost use Rattle.hull.specs.Curves.{Among, InRange, IsCurve, point_at};
 ghost use Rattle.family_points.specs.Vectors.{limits, zeros, IsBetween};
 ghost use Rattle.family_points.specs.Points.{points_within, AreOrdered};
 ghost use Rattle.family_points.specs.Counts.{most_tables, tables_between, tables_of};
+ghost use Rattle.family_points.specs.Inputs.{box_points};
+ghost use Rattle.family_rows.specs.Sources.{AreSources};
 
 use crate::joining::family_curve;
 use answers::NoMemory;
 use demand_rates::kinds::Rates;
 use family_points::family::Family;
+use family_rows::sources::Sources;
 use hull::{Curve, Score};
 use spares_input::{Case, PartId, nothing_held};
 use std::alloc::Global;
@@ -31,6 +34,30 @@ mod passed;
 pub use family_points::{
     Bounds, MOST_TABLES, choices, limits_of, place_parts, tables, tables_within, vector_of, work,
 };
+
+/// The curve of a family over all its vectors, from the family's sources. The cost counts stocks above the held ones.
+///
+/// Of vectors with the same cost and the same lower end, the first in dictionary order is kept. The curve begins at
+/// cost 0 if the least stocks are the held ones. Want of memory is the only error.
+pub fn curve_from<S: Score>(
+    alloc: Global,
+    sources: &Sources<'_>,
+    score: &S,
+) -> Result<Curve, NoMemory>
+    requires sources { AreSources sources.now }
+    requires few { let x = sources.now.family.now in tables_between x.case x.line x.low x.high ≤ most_tables }
+    ensures curve { IfOk result (IsCurve (box_points S.ends sources.now.family.now)) }
+    ensures ranges { IfOk result (λ curve. (v : Point) → Among v curve → InRange v) }
+    ensures begins { let x = sources.now.family.now in
+        x.held ≡ x.low → IfOk result (λ curve. (point_at curve 0).cost ≡ 0) }
+    ensures stocks { let x = sources.now.family.now in IfOk result (λ curve. (v : Point) → Among v curve
+        → IsBetween x.low x.high v.stocks) }
+{
+    sources.family.invariant();
+    let curve = family_curve(alloc, sources, score)?;
+    curve.invariant();
+    Ok(curve)
+}
 
 /// The curve of a line unit's family over the vectors from `low` to `high`. The cost counts stocks above `held`.
 ///
@@ -58,9 +85,8 @@ pub fn curve_within<S: Score>(
 {
     case.invariant();
     let family = Family::of(case, rates, line, bounds);
-    let curve = family_curve(alloc, &family, score)?;
-    curve.invariant();
-    Ok(curve)
+    let sources = Sources::of(alloc, &family)?;
+    curve_from(alloc, &sources, score)
 }
 
 /// The curve of a line unit's family over all its vectors: [`curve_within`] with nothing held and the limits.

@@ -1,21 +1,76 @@
 //! The curves of a case that begin at the held stocks.
 
-ghost use Rattle.std.specs.Prelude.{IfOk};
+ghost use Rattle.std.specs.Prelude.{◌≡◌, ◌≤◌, IfOk, length, take};
 ghost use Rattle.std.specs.List.{AllZip};
 ghost use Rattle.std.specs.Result.{IsOk};
 ghost use Rattle.demand_rates.specs.Rates.{AreRatesOf};
 ghost use Rattle.spares_input.specs.Stocks.{AreStocksOf};
 ghost use Rattle.fleet_model.specs.Rows.{line_units};
+ghost use Rattle.family_rows.specs.Sources.{AreSources};
 ghost use Rattle.held_work.specs.Work.{held_work_of};
 ghost use Rattle.held_work.specs.Curves.{IsFamilyCurve};
+ghost use Rattle.held_plan.specs.Held.{held_box};
 
 use crate::families::HeldFamilies;
 use crate::maker::CurveMaker;
+use crate::sample::{bounds_of, families_of, sources_of};
 use answers::NoMemory;
 use demand_rates::kinds::Rates;
+use family_rows::sources::Sources;
 use hull::{Curve, Score};
 use spares_input::{Case, Stocks};
 use std::alloc::Global;
+
+/// So many families have their sources made before their curves: the instructions that make sources and those that
+/// make curves fit into a processor's cache one after the other, but not together.
+const AT_ONCE: u32 = 16;
+
+/// The curve of the family of these sources.
+fn curve_from<S: Score, M: CurveMaker>(
+    alloc: Global,
+    families: &HeldFamilies<'_, S, M>,
+    sources: &Sources<'_>,
+) -> Result<Curve, NoMemory>
+    requires sources { AreSources sources.now }
+    requires family { sources.now.family.now ≡ held_box families.now sources.now.family.now.line }
+    ensures { IfOk result (IsFamilyCurve S.ends families.now.case families.now.held.list
+        sources.now.family.now.line) }
+{
+    families.invariant();
+    sources.family.invariant();
+    let maker = families.maker();
+    let curve = maker.curve_from(alloc, sources, families.score())?;
+    Ok(curve)
+}
+
+/// Adds the curves of the families from the number `from` up to, not including, `to` to those of the families before.
+fn add_curves<S: Score, M: CurveMaker>(
+    alloc: Global,
+    families: &HeldFamilies<'_, S, M>,
+    curves: &mut Vec<Curve>,
+    from: u32,
+    to: u32,
+) -> Result<(), NoMemory>
+    requires order { from ≤ to }
+    requires within { to ≤ length (line_units families.now.case) }
+    requires before { AllZip (IsFamilyCurve S.ends families.now.case families.now.held.list)
+        (take from (line_units families.now.case)) curves.old.items }
+    ensures { IfOk result (λ _. AllZip (IsFamilyCurve S.ends families.now.case families.now.held.list)
+        (take to (line_units families.now.case)) curves.new.items) }
+{
+    families.invariant();
+    let (case, rates, held) = (families.case(), families.rates(), families.held());
+    let all = case.line_units();
+    let lines = &all[from as usize..to as usize];
+    let bounds = bounds_of(alloc, case, held, lines)?;
+    let boxes = families_of(alloc, case, rates, held, lines, bounds.as_slice())?;
+    let sources = sources_of(alloc, boxes.as_slice())?;
+    for k in 0..sources.len() {
+        let curve = curve_from(alloc, families, &sources[k])?;
+        curves.push(curve)?;
+    }
+    Ok(())
+}
 
 /// The curve of each family in order.
 pub(crate) fn whole_curves<S: Score, M: CurveMaker>(
@@ -25,10 +80,13 @@ pub(crate) fn whole_curves<S: Score, M: CurveMaker>(
     ensures { IfOk result (λ curves. AllZip (IsFamilyCurve S.ends families.now.case families.now.held.list)
         (line_units families.now.case) curves.items) }
 {
+    let count = families.count();
     let mut curves = Vec::new(alloc);
-    for f in 0..families.count() {
-        let curve = families.curve(alloc, f)?;
-        curves.push(curve)?;
+    let mut from = 0;
+    while from < count {
+        let to = (from + AT_ONCE).min(count);
+        add_curves(alloc, families, &mut curves, from, to)?;
+        from = to;
     }
     Ok(curves)
 }

@@ -8,7 +8,6 @@ ghost use Rattle.spares_input.specs.Stocks.{AreStocksOf};
 ghost use Rattle.fleet_model.specs.Rows.{line_units};
 ghost use Rattle.family_items.specs.Inputs.{IsLine};
 ghost use Rattle.fleet_plan.specs.Families.{case_points};
-ghost use Rattle.held_work.specs.Curves.{IsFamilyCurve};
 ghost use Rattle.held_work.specs.Work.{held_work_of};
 ghost use Rattle.held_plan.specs.Held.{IsHeldCase};
 
@@ -68,6 +67,13 @@ impl<'a, S: Score, M: CurveMaker> HeldFamilies<'a, S, M> {
         }
     }
 
+    /// The rules of these families, for a proof.
+    pub(crate) fn invariant(&self)
+        ensures { IsHeldCase self.now }
+    {
+        let _opened = &self.case;
+    }
+
     /// The case.
     pub(crate) fn case(&self) -> &'a Case
         ensures case { result.now ≡ self.now.case }
@@ -100,20 +106,6 @@ impl<'a, S: Score, M: CurveMaker> HeldFamilies<'a, S, M> {
     {
         let lines = self.case.line_units();
         lines[family as usize]
-    }
-
-    /// The curve of a family over its vectors from the held stocks to the limits, with the cost of the stocks above the
-    /// held ones. Want of memory is the only error.
-    pub(crate) fn curve(&self, alloc: Global, family: u32) -> Result<Curve, NoMemory>
-        requires { family < length (line_units self.now.case) }
-        ensures { IfOk result (IsFamilyCurve S.ends self.now.case self.now.held.list
-            (get_or (line_units self.now.case) family 0)) }
-    {
-        let line = self.line(family);
-        let bounds = Bounds::from_held(alloc, self.case, line, self.held)?;
-        let maker = self.maker;
-        let curve = maker.curve_within(alloc, self.case, self.rates, line, &bounds, self.score)?;
-        Ok(curve)
     }
 
     /// The held stocks.

@@ -1,11 +1,12 @@
-//! A sample of a case's families, with all that doesn't depend on a price.
+//! Some of a case's families, with all that doesn't depend on a price.
 
-ghost use Rattle.std.specs.Prelude.{◌≡◌, IfOk, All, length, map};
+ghost use Rattle.std.specs.Prelude.{◌≡◌, IfOk, All, map};
 ghost use Rattle.demand_rates.specs.Rates.{AreRatesOf};
 ghost use Rattle.spares_input.specs.Stocks.{AreStocksOf, IsFor};
 ghost use Rattle.family_items.specs.Inputs.{IsLine};
 ghost use Rattle.family_points.specs.Vectors.{box_from};
 ghost use Rattle.family_rows.specs.Sources.{AreSources};
+ghost use Rattle.held_plan.specs.Held.{held_box, held_case};
 
 use answers::NoMemory;
 use demand_rates::kinds::Rates;
@@ -47,7 +48,8 @@ pub(crate) fn families_of<'b>(
     requires held { AreStocksOf case.now held.now }
     requires lines { All (λ p. IsLine case.now p.0) lines.now }
     requires bounds { bounds.now ≡ map (λ p. box_from case.now p.0 held.now.list) lines.now }
-    ensures { IfOk result (λ v. length v.items ≡ length lines.now) }
+    ensures { IfOk result (λ v. v.items
+        ≡ map (λ p. held_box (held_case case.now rates.now held.now) p.0) lines.now) }
 {
     case.invariant();
     let mut families = Vec::new(alloc);
@@ -64,7 +66,7 @@ pub(crate) fn sources_of<'f>(
     families: &'f [Family<'f>],
 ) -> Result<Vec<Sources<'f>>, NoMemory>
     ensures are { IfOk result (λ v. All AreSources v.items) }
-    ensures long { IfOk result (λ v. length v.items ≡ length families.now) }
+    ensures families { IfOk result (λ v. map (λ s. s.family.now) v.items ≡ families.now) }
 {
     let mut sources = Vec::new(alloc);
     for k in 0..families.len() {

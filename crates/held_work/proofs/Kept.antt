@@ -6,21 +6,19 @@ use Rattle.std.proofs.lemmas.Bool.Decides.{nat_tests}
 use Rattle.std.proofs.lemmas.List.Sums.{sum_by-cons}
 use Rattle.list_laws.proofs.Public.{each_any, same_map, sum_each}
 use Rattle.answers.specs.Counts.{count64}
-use Rattle.hull.specs.Curves.{Among, IsCurve, point_at}
-use Rattle.hull.specs.declared.point.Point.{Point}
+use Rattle.hull.specs.Curves.{Among}
 use Rattle.spares_input.specs.Cases.{CaseRows, IsCase}
 use Rattle.spares_input.specs.Pairs.{pair_place}
 use Rattle.spares_input.specs.Stocks.{AreStocksOf, StockList}
 use Rattle.fleet_model.specs.Rows.{line_units, stock}
 use Rattle.family_items.specs.Inputs.{IsLine}
 use Rattle.family_points.specs.declared.bounds.Bounds.{Bounds}
-use Rattle.family_points.specs.Vectors.{IsBetween, Pair, box_from, limits, places, vector_of, zeros}
+use Rattle.family_points.specs.Vectors.{Pair, box_from, limits, places, vector_of, zeros}
 use Rattle.family_points.specs.Points.{ScoreEnds, points_within, AreOrdered}
 use Rattle.family_points.specs.Counts.{limited, most_tables, tables_between, tables_of, work_of}
 use Rattle.family_points.proofs.Public.{held_ordered, tables_whole}
 use Rattle.fleet_plan.specs.Families.{case_points, family_points}
 use Rattle.fleet_plan.proofs.Public.{line_among}
-use Rattle.held_work.specs.Curves.{IsFamilyCurve}
 use Rattle.held_work.specs.Work.{held_work_of, tables_from, IsNothing}
 
 -- ---- the work of a family is within that of the case
@@ -62,16 +60,6 @@ box_ordered c l held b e valid line h = subst (λ (x : Bounds). AreOrdered c l x
 pub box_few : (c : CaseRows) (l : ℕ) (held : List ℕ) (b : Bounds) → b ≡ box_from c l held → IsCase c → IsLine c l → IsOk (held_work_of c held)
     → tables_between c l b.low b.high ≤ most_tables
 box_few c l held b e valid line h = subst (λ (x : Bounds). tables_between c l x.low x.high ≤ most_tables) (sym e) (few_tables c held l valid line h)
-
--- the curve of this box is the family's curve from what is held
-pub box_curve : (ends : ScoreEnds) (c : CaseRows) (l : ℕ) (held : List ℕ) (b : Bounds) (curve : List Point) → b ≡ box_from c l held
-    → IsCurve (points_within c l ends b.held b.low b.high) curve → (b.held ≡ b.low → (point_at curve 0).cost ≡ 0)
-    → ((v : Point) → Among v curve → IsBetween b.low b.high v.stocks) → IsFamilyCurve ends c held l curve
-box_curve ends c l held b curve e is free within = record {
-  is_curve = subst (λ (x : Bounds). IsCurve (points_within c l ends x.held x.low x.high) curve) e is;
-  free = free (ap (λ (x : Bounds). x.held) e ∙ sym (ap (λ (x : Bounds). x.low) e));
-  within = subst (λ (x : Bounds). (v : Point) → Among v curve → IsBetween x.low x.high v.stocks) e within;
-}
 
 -- ---- where nothing is held
 

@@ -14,16 +14,13 @@ use std::alloc::Global;
 pub struct FamilyCurves;
 
 impl CurveMaker for FamilyCurves {
-    fn curve_within<S: Score>(
+    fn curve_from<S: Score>(
         &self,
         alloc: Global,
-        case: &Case,
-        rates: &Rates,
-        line: PartId,
-        bounds: &Bounds,
+        sources: &Sources<'_>,
         score: &S,
     ) -> Result<Curve, NoMemory> {
-        family_curve::curve_within(alloc, case, rates, line, bounds, score)
+        family_curve::curve_from(alloc, sources, score)
     }
 
     fn part_within<S: Score>(
